@@ -84,6 +84,18 @@ clients_option = record (new_rule (codes "clients")) {
   parser = Some (parser.Signed (pos 1) (pos 64));
 }
 
+-- `--consumers`, a port, which may be given, from 1 to 65535
+abbrev pub consumers_option : Rule
+consumers_option = record (new_rule (codes "consumers")) {
+  long = Some (codes "consumers");
+  value_names = 1;
+  parser = Some (parser.Signed (pos 1) (pos 65535));
+}
+
+-- `--consumers-on`, an address, which may be given
+abbrev pub consumers_address_option : Rule
+consumers_address_option = record (new_rule (codes "consumers-on")) { long = Some (codes "consumers-on"); value_names = 1 }
+
 -- `--record`, an i32, which may be given several times
 abbrev pub stream_option : Rule
 stream_option = record (new_rule (codes "record")) {
@@ -149,6 +161,10 @@ serve_app = with_rule (with_rule (with_rule (with_rule (with_rule (with_rule (wi
     (flag_option (codes "aeron"))) window_option) clients_option) stream_option) segment_option) (flag_option (codes "quiet")))
     (flag_option (codes "strict"))) metrics_option) (flag_option (codes "checkpoints"))) (flag_option (codes "no-checkpoints"))) name_option) (flag_option (codes "log-times"))) (flag_option (codes "no-create"))) waiting_option
 
+-- and with the options of consumers
+abbrev pub consumers_app : App
+consumers_app = with_rule (with_rule serve_app consumers_option) consumers_address_option
+
 -- a number of an i64 from 0 on, which has to be given
 abbrev pub number_word : Text → Rule
 number_word id = record (required_word id) { parser = Some (parser.Signed (pos 0) (pos 9223372036854775807)) }
@@ -199,7 +215,7 @@ named_tool = on_top (λ s. record s { has_version = true; subcommand_required = 
 -- and its commands
 abbrev pub tool_app : App
 tool_app = with_subcommand (with_subcommand (with_subcommand (with_subcommand (with_subcommand (with_subcommand (with_subcommand (with_subcommand (with_subcommand (with_subcommand named_tool create_app.top) run_app.top)
-    list_app.top) verify_app.top) (word_app (codes "frames") (codes "file")).top) describe_app.top) serve_app.top)
+    list_app.top) verify_app.top) (word_app (codes "frames") (codes "file")).top) describe_app.top) consumers_app.top)
     compact_app.top) export_app.top) ask_app.top
 
 -- the command is that one, and has no argument that its subcommands have too
@@ -263,6 +279,8 @@ pub record IsServing (rows : List Row) (words : ServeWords) : Type 0 where
   pub aeron_is : IsFlag (one_of (codes "aeron") rows) words.is_aeron
   pub window_is : IsNumberIf (one_of (codes "window") rows) words.window
   pub clients_is : IsNumberIf (one_of (codes "clients") rows) words.clients
+  pub consumers_is : IsNumberIf (one_of (codes "consumers") rows) words.consumers
+  pub consumers_on_is : first_of (codes "consumers-on") rows ≡ option_map (λ address. address.now) words.consumers_on
   pub streams_are : AreStreams rows words.streams.items
   pub segment_is : IsNumberIf (one_of (codes "segment-length") rows) words.segment_length
   pub quiet_is : IsFlag (one_of (codes "quiet") rows) words.is_quiet

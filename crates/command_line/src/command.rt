@@ -5,7 +5,7 @@ ghost use Rattle.clap.specs.Words.{AddsSubcommand, app_of, fault_of, found_of, k
 ghost use Rattle.command_line.specs.CommandLine.{IsAsked, IsCommand, IsHeld, IsMet, IsPlain, IsWordsFault, compact_app, create_app, describe_app, export_app, file_option, flag_option, history_option, list_app, named_tool, number_word, position_option, recording_word, required_word, run_app, tool_app, verify_app, waiting_option, word_app, words_of};
 
 use crate::asking::{AskWords, ask, asking};
-use crate::serving::{ServeWords, serve, served};
+use crate::serving::{ServeWords, serve_consumers, served};
 use crate::version::VERSION;
 use clap::builder::ValueParser;
 use clap::error::ErrorKind;
@@ -419,7 +419,7 @@ fn tool<'a>(alloc: Global) -> Result<Command<'a>, AllocError>
     let tool = with(tool, verify(alloc))?;
     let tool = with(tool, frames(alloc))?;
     let tool = with(tool, describe(alloc))?;
-    let tool = with(tool, serve(alloc))?;
+    let tool = with(tool, serve_consumers(alloc))?;
     let tool = with(tool, compact(alloc))?;
     let tool = with(tool, export(alloc))?;
     with(tool, ask(alloc))

@@ -58,6 +58,9 @@ returns c = record {
       (found_of c.args.own.now) (codes "window") _ c.get_one-window.ensures.none c.get_one-window.ensures.value;
   clients_is = number_if (λ text x. ParsesUnsigned 32 10 text x × ExplainsUnsignedError 10 text x × HasUnsignedDigitsIfOk text x) (λ text x read. read.0)
       (found_of c.args.own.now) (codes "clients") _ c.get_one-clients.ensures.none c.get_one-clients.ensures.value;
+  consumers_is = number_if (λ text x. ParsesUnsigned 32 10 text x × ExplainsUnsignedError 10 text x × HasUnsignedDigitsIfOk text x) (λ text x read. read.0)
+      (found_of c.args.own.now) (codes "consumers") _ c.get_one-consumers.ensures.none c.get_one-consumers.ensures.value;
+  consumers_on_is = text_given (found_of c.args.own.now) (codes "consumers-on") _ _ c.get_str-consumers_on.ensures refl;
   streams_are = c.requires;
   segment_is = number_if (λ text x. ParsesUnsigned 32 10 text x × ExplainsUnsignedError 10 text x × HasUnsignedDigitsIfOk text x) (λ text x read. read.0)
       (found_of c.args.own.now) (codes "segment-length") _ c.get_one-segment_length.ensures.none c.get_one-segment_length.ensures.value;
