@@ -79,7 +79,7 @@ const WINDOW_HELP: &str =
 
 const CLIENTS_HELP: &str =
     "How many clients are served at a time, from 1 to 64; their replays are closed when they leave. \
-Without it one, whose replays stay open";
+Without it one, whose replays stay open: a client that polls without a pause then keeps all others out";
 
 const STREAM_HELP: &str =
     "A stream that the server records by itself, without a control line; for several streams give it several \
