@@ -4,7 +4,7 @@ ghost use Rattle.std.specs.Prelude.{◌≡◌, ◌++◌, IfOk, OnOk, string_byte
 ghost use Rattle.std.specs.List.{flat_map};
 ghost use Rattle.archive_report.specs.PageText.{count_line, date_lines, disk_line, history_lines, length_lines, page_text, position_lines, recording_lines, sender_line, stale_line, state_text, stream_lines, unknown_line};
 
-use crate::dates::Date;
+use crate::dates::{Date, StopDate};
 use crate::summary::{Staleness, Summary, Total, recorded_bytes};
 use crate::version::version_number;
 use archive_model::Registration;
@@ -119,7 +119,10 @@ fn add_dates(known: &Registration, page: &mut String) -> Result<(), AllocError>
     ensures { OnOk result (string_bytes page.new ≡ string_bytes page.old ++ date_lines known.now) }
 {
     let started = Date(known.descriptor.start_timestamp);
-    let stopped = Date(known.descriptor.stop_timestamp);
+    let stopped = StopDate {
+        start: known.descriptor.start_timestamp,
+        stop: known.descriptor.stop_timestamp,
+    };
     writeln!(page, "  started    {started}\n  stopped    {stopped}")
 }
 

@@ -87,7 +87,7 @@ const WINDOW_HELP: &str =
 
 const CLIENTS_HELP: &str =
     "How many clients are served at a time, from 1 to 64; their replays are closed when they leave. \
-Without it one, whose replays stay open";
+Without it one, whose replays stay open: a client that polls without a pause then keeps all others out";
 
 const CONSUMERS_HELP: &str =
     "A TCP port for clients that only read, 64 at a time: it answers list, find, positions, source, images, follow and quit";

@@ -191,3 +191,39 @@ fn a_document_of_one_recording(rt: HostRuntime) -> Result<(), Fail> {
         \"stop_timestamp\":2000,\"stopped\":\"1970-01-01T00:00:02Z\",\"stream_id\":1001,\"term_length\":65536}\n",
     )
 }
+
+/// A recording that was stopped at this time.
+fn stopped_at(alloc: Global, timestamp: &str) -> Result<MemoryDisk, Fail> {
+    let lines = format!(in alloc;
+        "start 1001 7 42 65536 1408 131072 0 1000 c\nstop 0 {timestamp}\n"
+    )?;
+    after(alloc, lines.as_str())
+}
+
+/// A stop before its start is taken, and has no date.
+#[test]
+fn a_stop_before_its_start(rt: HostRuntime) -> Result<(), Fail> {
+    for (timestamp, told) in [
+        ("999", "999 (before its start)"),
+        ("0", "0 (before its start)"),
+        ("1000", "1970-01-01T00:00:01Z"),
+    ] {
+        let page = format!(in rt.alloc();
+            "recording 0, stopped\n  channel    c\n  stream     1001\n  session    7\n  started    1970-01-01T00:00:01Z\n  \
+            stopped    {told}\n  positions  0 to 0\n  recorded   0 bytes\n  on disk    0 bytes in 0 segment files\n  \
+            lengths    term 65536, segment 131072, MTU 1408\n\n"
+        )?;
+        let disk = stopped_at(rt.alloc(), timestamp)?;
+        check_asked(rt.alloc(), disk, Some(0), Form::Page, page.as_str())?;
+    }
+    check_asked(
+        rt.alloc(),
+        stopped_at(rt.alloc(), "999")?,
+        Some(0),
+        Form::Json,
+        "{\"active\":false,\"channel\":\"c\",\"disk_bytes\":0,\"initial_term_id\":42,\"mtu\":1408,\
+        \"recorded_bytes\":0,\"recorded_position\":0,\"recording\":0,\"segment_files\":0,\"segment_length\":131072,\
+        \"session_id\":7,\"source_identity\":\"\",\"start_position\":0,\"start_timestamp\":1000,\"started\":\"1970-01-01T00:00:01Z\",\
+        \"stop_timestamp\":999,\"stopped\":null,\"stream_id\":1001,\"term_length\":65536}\n",
+    )
+}
