@@ -28,6 +28,7 @@ fn check(alloc: Global, disk: MemoryDisk, form: Form, told: &str) -> Result<(), 
     Err(Fail::new(String::from_str(alloc, std::str::from_utf8(out.as_slice())?)?))
 }
 
+/// `describe` prints each recording, the archive's sums, and files that are stale or unknown, on a page for people.
 #[test]
 fn a_page(rt: HostRuntime) -> Result<(), Fail> {
     check(
@@ -118,6 +119,7 @@ fn a_page_over_damage(rt: HostRuntime) -> Result<(), Fail> {
     )
 }
 
+/// `describe --json` prints the same as one JSON object with sorted keys.
 #[test]
 fn a_document(rt: HostRuntime) -> Result<(), Fail> {
     check(
@@ -138,6 +140,7 @@ fn a_document(rt: HostRuntime) -> Result<(), Fail> {
     )
 }
 
+/// The page of a recording that has a source identity shows it.
 #[test]
 fn a_page_of_a_source(rt: HostRuntime) -> Result<(), Fail> {
     check(
