@@ -39,6 +39,7 @@ fn check_asked(
     Err(Fail::new(String::from_str(alloc, std::str::from_utf8(out.as_slice())?)?))
 }
 
+/// `describe` prints each recording, the archive's sums, and files that are stale or unknown, on a page for people.
 #[test]
 fn a_page(rt: HostRuntime) -> Result<(), Fail> {
     check(
@@ -129,6 +130,7 @@ fn a_page_over_damage(rt: HostRuntime) -> Result<(), Fail> {
     )
 }
 
+/// `describe --json` prints the same as one JSON object with sorted keys.
 #[test]
 fn a_document(rt: HostRuntime) -> Result<(), Fail> {
     check(
@@ -149,6 +151,7 @@ fn a_document(rt: HostRuntime) -> Result<(), Fail> {
     )
 }
 
+/// The page of a recording that has a source identity shows it.
 #[test]
 fn a_page_of_a_source(rt: HostRuntime) -> Result<(), Fail> {
     check(
