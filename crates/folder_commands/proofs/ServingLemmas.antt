@@ -17,7 +17,8 @@ module _ (given : Given) (words : ServeWords) (looked : Option Life) (receiver :
   are_right (inl ends) = named ends
   are_right (inr (inl bad)) = bad options.window asked.window
   are_right (inr (inr (inl bad))) = bad asked.may_record
-  are_right (inr (inr (inr bad))) = bad options.segment_length asked.segments
+  are_right (inr (inr (inr (inl bad)))) = bad options.segment_length asked.segments
+  are_right (inr (inr (inr (inr bad)))) = bad options.makes_checkpoints asked.checkpoints
 
   pub not_opened : (ending : Ending) → IsUnopenedFolder ending → ServesFolder given words looked None ending
   not_opened ending (fault, is) = subst (ServesFolder given words looked None) (sym is) are_right

@@ -7,6 +7,7 @@ mod capture;
 mod commands;
 mod concluding;
 mod exit;
+mod flushing;
 mod hidden;
 mod looking;
 mod observers;
@@ -19,6 +20,7 @@ mod sound_disk;
 mod status;
 mod usage;
 mod verifying;
+mod waiting;
 mod why;
 
 pub use answering::{answered, no_command};
