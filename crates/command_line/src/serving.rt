@@ -40,7 +40,7 @@ pub struct ServeWords<'a> {
     pub is_strict: bool,
     /// The file that the metrics are written to each second, as it was given. None: there is no such file.
     pub metrics: Option<&'a str>,
-    /// The name of this recorder, in each line and in each sample of the metrics, as it was given. None: it has none.
+    /// The name of this recorder, which its lines on standard error begin with, as it was given. None: they have none.
     pub name: Option<&'a str>,
     /// Whether each line on standard error begins with its time and a level.
     pub logs_times: bool,
@@ -100,8 +100,7 @@ const METRICS_HELP: &str =
 is written beside its place as <file>.part, and then renamed";
 
 const NAME_HELP: &str =
-    "The name of this recorder, 1 to 64 of the characters A-Z, a-z, 0-9, _, . and -: lines on standard error begin with it, and each \
-sample of the metrics has it as its label `recorder`. Without it the label is the number of --receive";
+    "The name of this recorder, 1 to 64 of the characters A-Z, a-z, 0-9, _, . and -: lines on standard error begin with it";
 
 const TIMES_HELP: &str =
     "Begins each line on standard error with its time in UTC, and `error` or `info`";

@@ -1,6 +1,7 @@
 -- What `serve` does over the archive of a folder, and how it ends: docs/SERVING.md.
-use Rattle.std.specs.Prelude.{◌≡◌, ◌⊎◌, ◌↔◌, ◌<◌, ◌≤◌, ◌%◌, ℕ, ℤ, pos, Bool, true, false, List, [], ◌∷◌, length, IsTrue, IsSomeAnd, Option, None, Some, is_some}
+use Rattle.std.specs.Prelude.{◌≡◌, ◌⊎◌, ◌↔◌, ◌<◌, ◌≤◌, ◌%◌, ◌&&◌, ◌||◌, ◌==◌, ℕ, ℤ, pos, Bool, true, false, List, [], ◌∷◌, length, IfSome, IsTrue, IsSomeAnd, nat_le, Option, None, Some, is_some}
 use Rattle.std.specs.Int.{is_power_of_two}
+use Rattle.std.specs.List.{list_all}
 use Rattle.std.specs.Net.Addr.{IsMulticastV4}
 use Rattle.std.specs.Net.Grammar.{IsIpv4Text}
 use Rattle.std.specs.declared.net.ipv4_addr.Ipv4Addr.{Ipv4Addr}
@@ -62,7 +63,24 @@ AsksForSegments streams None bytes = bytes ≡ pos 134217728
 AsksForSegments [] (Some asked) bytes = ⊥
 AsksForSegments (stream ∷ streams) (Some asked) bytes = IsSegmentLength asked × (bytes ≡ pos asked)
 
+-- a letter or a digit of ASCII, `_`, `.` or `-`
+abbrev pub is_name_byte : ℕ → Bool
+is_name_byte b =
+    (nat_le 48 b && nat_le b 57) || ((nat_le 65 b && nat_le b 90) || ((nat_le 97 b && nat_le b 122) || ((b == 95) || ((b == 46) || (b == 45)))))
+
+-- a name of a recorder: 1 to 64 of these
+abbrev pub is_recorder_name : List ℕ → Bool
+is_recorder_name text = nat_le 1 (length text) && (nat_le (length text) 64 && list_all is_name_byte text)
+
 module _ (words : ServeWords) where
+  -- the name that the words give, if they give one, is one of a recorder
+  abbrev pub HasName : Type 0
+  HasName = IfSome words.name (λ text. IsTrue (is_recorder_name text.now))
+
+  -- it is not
+  abbrev pub HasBadName : Type 0
+  HasBadName = HasName → ⊥
+
   -- the words ask for this receiver window, or for none
   abbrev pub HasWindow : Option ℤ → Type 0
   HasWindow window = AsksForWindow words.is_aeron words.window window
@@ -87,9 +105,9 @@ module _ (words : ServeWords) where
   abbrev pub HasBadSegments : Type 0
   HasBadSegments = (bytes : ℤ) → HasSegments bytes → ⊥
 
-  -- what they say of a receiver window, of streams or of segments is wrong
+  -- what they say of a receiver window, of streams, of segments or of a name is wrong
   abbrev pub HasBadOptions : Type 0
-  HasBadOptions = HasBadWindow ⊎ HasBadStreams ⊎ HasBadSegments
+  HasBadOptions = HasBadWindow ⊎ HasBadStreams ⊎ HasBadSegments ⊎ HasBadName
 
   -- the options of a server are those of the words, with this receiver's number
   pub record AreOptions (receiver : ℤ) (options : ServeOptions) : Type 0 where
@@ -103,6 +121,7 @@ module _ (words : ServeWords) where
     pub segments : HasSegments options.segment_length
     pub strict : options.is_strict ≡ words.is_strict
     pub measured : options.is_measured ≡ is_some words.metrics
+    pub named : HasName
 
   -- the words name no address, or no ports
   abbrev pub HasNoEnds : Type 0

@@ -8,6 +8,7 @@ mod commands;
 mod concluding;
 mod exit;
 mod hidden;
+mod log;
 mod looking;
 mod observers;
 mod open_folder;

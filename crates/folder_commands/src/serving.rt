@@ -8,20 +8,22 @@ ghost use Rattle.host_disk.specs.Events.{Given};
 ghost use Rattle.host_disk.specs.HostDisk.{host_life};
 ghost use Rattle.folder_commands.specs.declared.status.Ending.TheVariants.{NoCommand, Failed, Refused};
 ghost use Rattle.folder_commands.specs.declared.why.Why.TheVariants.{Usage};
+ghost use Rattle.command_line.specs.declared.usage.UsageError.TheVariants.{Name};
 ghost use Rattle.frame_core.specs.declared.refusal.Refusal.TheVariants.{NotCatalogue};
 ghost use Rattle.folder_commands.specs.Folders.{ending_in};
 ghost use Rattle.folder_commands.specs.Left.{ends_with, leaves, left_life, sees};
-ghost use Rattle.folder_commands.specs.Serving.{AreOptions, HasBadOptions, HasBadSegments, HasBadStreams, HasBadWindow, HasNoEnds, HasSegments, HasWindow, IsAddressReason, HasCatalogue, IsNoAddress, IsReceiverWindow, IsSegmentLength, IsUnbound, LacksCatalogue, RecordsStreams, ServesFolder, ServesOver, segment_reason, streams_reason, window_reason};
+ghost use Rattle.folder_commands.specs.Serving.{AreOptions, HasBadName, HasBadOptions, HasBadSegments, HasBadStreams, HasBadWindow, HasNoEnds, HasSegments, HasWindow, IsAddressReason, HasCatalogue, HasName, IsNoAddress, IsReceiverWindow, IsSegmentLength, IsUnbound, LacksCatalogue, RecordsStreams, ServesFolder, ServesOver, is_name_byte, is_recorder_name, segment_reason, streams_reason, window_reason};
 
 use crate::exit::Exit;
-use crate::hidden::warns_of_hidden;
+use crate::hidden::warns_of_hidden_by;
+use crate::log::Log;
 use crate::open_folder::closed;
 use crate::outcome::{Left, Outcome};
 use crate::reporting::{MetricsFile, ServeFaults, ServeReporter};
 use crate::status::Ending;
 use crate::waiting::disk_within;
 use crate::why::Why;
-use archive_commands::{Screen, Stop, Watched};
+use archive_commands::{Stop, Watched};
 use clap::error::ErrorKind;
 use command_line::{ServeWords, UsageError};
 use disk_core::{Disk, Fault, FileId};
@@ -39,6 +41,8 @@ use std::rt::Clock;
 use std::sync::Wait;
 use std::thread::Threads;
 
+/// Bytes of a recorder's name at most.
+const LONGEST_NAME: usize = 64;
 /// Streams that `--record` may name at most.
 const MOST_STREAMS: usize = 64;
 
@@ -75,7 +79,7 @@ pub(crate) fn serve<
         Ok(ports) => ports,
         Err(exit) => return Err(unserved(exit, disk)),
     };
-    if let Some(looked) = warns_of_hidden(rt, folder, &Screen::new(net)) {
+    if let Some(looked) = warns_of_hidden_by(rt, folder, &log_of(net, words)) {
         if words.is_strict {
             return Err(Outcome {
                 exit: Exit::reported(Ending::Hidden),
@@ -88,9 +92,9 @@ pub(crate) fn serve<
         Ok(disk) => disk,
         Err((exit, disk)) => return Err(unserved(exit, disk)),
     };
-    let disk = Watched::new(disk, ServeFaults::new(rt.alloc(), net));
+    let disk = Watched::new(disk, ServeFaults::new(rt.alloc(), log_of(net, words)));
     let metrics = metrics_of(rt, words);
-    let reporter = ServeReporter::new(net, words.is_quiet, metrics);
+    let reporter = ServeReporter::new(log_of(net, words), words.is_quiet, metrics);
     let (disk, done) = serve_disk(net, rt.alloc(), ports, disk, &options, reporter);
     Outcome::leaving(done, closed(disk))
 }
@@ -156,13 +160,14 @@ fn receiver_id(source: &impl RandomSource) -> i64 {
     }
 }
 
-/// The options of a server with this receiver's number that the words ask for. Refused if they name a bad receiver window, or bad
-/// streams or segments.
+/// The options of a server with this receiver's number that the words ask for. Refused if they name a bad receiver window, bad
+/// streams or segments, or no name of a recorder.
 fn options_of<'a>(words: &'a ServeWords<'_>, receiver_id: i64) -> Result<ServeOptions<'a>, Exit>
     ensures { MatchResult result
         (AreOptions words.now receiver_id)
         (λ exit. HasBadOptions words.now × (exit.ending ≡ NoCommand ValueValidation)) }
 {
+    check_name(words)?;
     Ok(ServeOptions {
         idle_seconds: u64::from(words.idle),
         settle_every: u64::from(words.settle_every),
@@ -174,6 +179,38 @@ fn options_of<'a>(words: &'a ServeWords<'_>, receiver_id: i64) -> Result<ServeOp
         is_strict: words.is_strict,
         is_measured: words.metrics.is_some(),
     })
+}
+
+/// Refused if the name that the words give is no name of a recorder.
+fn check_name(words: &ServeWords<'_>) -> Result<(), Exit>
+    ensures named { MatchResult result (λ _. HasName words.now) (λ exit.
+        HasBadName words.now × (exit.ending ≡ NoCommand ValueValidation)) }
+    ensures why { IfErr result (λ exit. exit.why ≡ Usage Name) }
+{
+    match words.name {
+        Some(name) if !is_recorder_name(name) => Err(misworded(UsageError::Name)),
+        _ => Ok(()),
+    }
+}
+
+/// Whether a text may be the name of a recorder.
+fn is_recorder_name(text: &str) -> bool
+    ensures { result ≡ is_recorder_name text.now }
+{
+    let bytes = text.as_bytes();
+    1 <= bytes.len() && bytes.len() <= LONGEST_NAME && bytes.iter().all(|byte| is_name_byte(*byte))
+}
+
+/// Whether a byte may stand in the name of a recorder: a letter or a digit of ASCII, `_`, `.` or `-`.
+fn is_name_byte(byte: u8) -> bool
+    ensures { result ≡ is_name_byte byte }
+{
+    (b'0' <= byte && byte <= b'9')
+        || (b'A' <= byte && byte <= b'Z')
+        || (b'a' <= byte && byte <= b'z')
+        || byte == b'_'
+        || byte == b'.'
+        || byte == b'-'
 }
 
 /// The greatest receiver window that the words ask for, in bytes; None without `--aeron`. Refused if `--window` comes without
@@ -317,6 +354,11 @@ fn unbound(port: u16, error: io::Error) -> Exit
         ending: Ending::Failed(error.kind()),
         why: Why::Port(port, error),
     }
+}
+
+/// Where the lines of a server go whose words these are.
+fn log_of<'a, R: Eprint + Clock>(net: &'a R, words: &ServeWords<'a>) -> Log<'a, R> {
+    Log::new(net, words.name, words.logs_times)
 }
 
 /// The metrics file that the words ask for.
