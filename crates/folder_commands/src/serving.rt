@@ -48,7 +48,7 @@ const MOST_STREAMS: usize = 64;
 
 /// Where control lines and datagrams come to.
 #[derive(Clone, Copy, Drop)]
-struct Ends {
+struct Addresses {
     address: Ipv4Addr,
     control: u16,
     receive: u16,
@@ -72,10 +72,10 @@ pub(crate) fn serve<
     ensures { ServesFolder given words.now (sees result) (leaves result) (ends_with result) }
 {
     let options = options_of(words, receiver_id(&rt))?;
-    let ends = ends_of(words)?;
+    let addresses = addresses_of(words)?;
     let folder = Path::new(words.folder);
     let disk = disk_within(rt, folder, words.wait)?;
-    let ports = match bound(net, &ends) {
+    let ports = match bound(net, &addresses) {
         Ok(ports) => ports,
         Err(exit) => return Err(unserved(exit, disk)),
     };
@@ -305,13 +305,13 @@ fn address_of(word: &str) -> Result<Ipv4Addr, Exit>
 }
 
 /// The address and the ports that the words name. Refused if they name none.
-fn ends_of(words: &ServeWords<'_>) -> Result<Ends, Exit>
+fn addresses_of(words: &ServeWords<'_>) -> Result<Addresses, Exit>
     ensures { MatchResult result
         (λ _. HasNoEnds words.now → ⊥)
         (λ exit. HasNoEnds words.now × (exit.ending ≡ NoCommand ValueValidation)) }
 {
     let address = address_of(words.receive_on)?;
-    Ok(Ends {
+    Ok(Addresses {
         address,
         control: port_of(words.control)?,
         receive: port_of(words.receive)?,
@@ -321,17 +321,17 @@ fn ends_of(words: &ServeWords<'_>) -> Result<Ends, Exit>
 /// Binds the ports: control lines to 127.0.0.1 alone, datagrams to an address. Refused if the system refuses one.
 fn bound<R: Net<Listener = TcpListener, Stream = TcpStream>>(
     net: &R,
-    ends: &Ends,
+    addresses: &Addresses,
 ) -> Result<Ports, Exit>
     ensures { IfErr result (λ exit. IsUnbound exit.ending) }
 {
-    let listener = match TcpListener::bind(net, (Ipv4Addr::LOCALHOST, ends.control)) {
+    let listener = match TcpListener::bind(net, (Ipv4Addr::LOCALHOST, addresses.control)) {
         Ok(listener) => listener,
-        Err(error) => return Err(unbound(ends.control, error)),
+        Err(error) => return Err(unbound(addresses.control, error)),
     };
-    match UdpSocket::bind(net, (ends.address, ends.receive)) {
+    match UdpSocket::bind(net, (addresses.address, addresses.receive)) {
         Ok(socket) => Ok(Ports { listener, socket }),
-        Err(error) => Err(unbound(ends.receive, error)),
+        Err(error) => Err(unbound(addresses.receive, error)),
     }
 }
 
