@@ -15,6 +15,28 @@ use std::fmt;
 #[derive(Clone, Copy, Debug)]
 pub(crate) struct Date(pub i64);
 
+/// A moment, so many milliseconds after the beginning of 1970 in UTC, with all digits of its milliseconds, as
+/// `2026-11-29T08:41:36.120Z`; the number itself if no date is so late. One before 1970 is shown as its beginning.
+#[derive(Clone, Copy, Debug)]
+pub struct Moment(pub i64);
+
+impl fmt::Display for Moment {
+    fn fmt<W: fmt::Write>(&self, f: &mut fmt::Formatter<W>) -> fmt::Result {
+        let time = self.0.max(0);
+        let millis = time % 1_000;
+        match civil_of(time - millis) {
+            Some(civil) => write!(
+                f,
+                "{civil}.{}{}{}Z",
+                millis / 100,
+                millis / 10 % 10,
+                millis % 10
+            ),
+            None => write!(f, "{time}"),
+        }
+    }
+}
+
 /// When a recording was stopped that began at a time. Of a stop before its start it is the number, and that is said: no date that
 /// it may stand for is one of the recording.
 #[derive(Clone, Copy, Debug)]

@@ -48,7 +48,7 @@ pub struct ServeWords<'a> {
     pub checkpoints: bool,
     /// Whether a word asks for none.
     pub no_checkpoints: bool,
-    /// The name of this recorder, in each line and in each sample of the metrics, as it was given. None: it has none.
+    /// The name of this recorder, which its lines on standard error begin with, as it was given. None: they have none.
     pub name: Option<&'a str>,
     /// Whether each line on standard error begins with its time and a level.
     pub logs_times: bool,
@@ -117,8 +117,7 @@ const NO_CHECKPOINTS_HELP: &str =
     "Makes no checkpoints, which --aeron makes without being asked. It needs --aeron";
 
 const NAME_HELP: &str =
-    "The name of this recorder, 1 to 64 of the characters A-Z, a-z, 0-9, _, . and -: lines on standard error begin with it, and each \
-sample of the metrics has it as its label `recorder`. Without it the label is the number of --receive";
+    "The name of this recorder, 1 to 64 of the characters A-Z, a-z, 0-9, _, . and -: lines on standard error begin with it";
 
 const TIMES_HELP: &str =
     "Begins each line on standard error with its time in UTC, and `error` or `info`";

@@ -1,6 +1,7 @@
 -- What `serve` does over the archive of a folder, and how it ends: docs/SERVING.md.
-use Rattle.std.specs.Prelude.{◌≡◌, ◌⊎◌, ◌↔◌, ◌||◌, ◌<◌, ◌≤◌, ◌%◌, ℕ, ℤ, pos, Bool, true, false, List, [], ◌∷◌, length, IsTrue, IsSomeAnd, Option, None, Some, is_some}
+use Rattle.std.specs.Prelude.{◌≡◌, ◌⊎◌, ◌↔◌, ◌<◌, ◌≤◌, ◌%◌, ◌&&◌, ◌||◌, ◌==◌, ℕ, ℤ, pos, Bool, true, false, List, [], ◌∷◌, length, IfSome, IsTrue, IsSomeAnd, nat_le, Option, None, Some, is_some}
 use Rattle.std.specs.Int.{is_power_of_two}
+use Rattle.std.specs.List.{list_all}
 use Rattle.std.specs.Net.Addr.{IsMulticastV4}
 use Rattle.std.specs.Net.Grammar.{IsIpv4Text}
 use Rattle.std.specs.declared.net.ipv4_addr.Ipv4Addr.{Ipv4Addr}
@@ -69,7 +70,24 @@ AsksForCheckpoints is_aeron asks false makes = makes ≡ (asks || is_aeron)
 AsksForCheckpoints true false true makes = makes ≡ false
 AsksForCheckpoints is_aeron asks true makes = ⊥
 
+-- a letter or a digit of ASCII, `_`, `.` or `-`
+abbrev pub is_name_byte : ℕ → Bool
+is_name_byte b =
+    (nat_le 48 b && nat_le b 57) || ((nat_le 65 b && nat_le b 90) || ((nat_le 97 b && nat_le b 122) || ((b == 95) || ((b == 46) || (b == 45)))))
+
+-- a name of a recorder: 1 to 64 of these
+abbrev pub is_recorder_name : List ℕ → Bool
+is_recorder_name text = nat_le 1 (length text) && (nat_le (length text) 64 && list_all is_name_byte text)
+
 module _ (words : ServeWords) where
+  -- the name that the words give, if they give one, is one of a recorder
+  abbrev pub HasName : Type 0
+  HasName = IfSome words.name (λ text. IsTrue (is_recorder_name text.now))
+
+  -- it is not
+  abbrev pub HasBadName : Type 0
+  HasBadName = HasName → ⊥
+
   -- the words ask for this receiver window, or for none
   abbrev pub HasWindow : Option ℤ → Type 0
   HasWindow window = AsksForWindow words.is_aeron words.window window
@@ -98,9 +116,9 @@ module _ (words : ServeWords) where
   abbrev pub HasBadCheckpoints : Type 0
   HasBadCheckpoints = (makes : Bool) → AsksForCheckpoints words.is_aeron words.checkpoints words.no_checkpoints makes → ⊥
 
-  -- what they say of a receiver window, of streams, of segments or of checkpoints is wrong
+  -- what they say of a receiver window, of streams, of segments, of checkpoints or of a name is wrong
   abbrev pub HasBadOptions : Type 0
-  HasBadOptions = HasBadWindow ⊎ HasBadStreams ⊎ HasBadSegments ⊎ HasBadCheckpoints
+  HasBadOptions = HasBadWindow ⊎ HasBadStreams ⊎ HasBadSegments ⊎ HasBadCheckpoints ⊎ HasBadName
 
   -- the options of a server are those of the words, with this receiver's number
   pub record AreOptions (receiver : ℤ) (options : ServeOptions) : Type 0 where
@@ -116,6 +134,7 @@ module _ (words : ServeWords) where
     pub measured : options.is_measured ≡ is_some words.metrics
     pub checkpoints : AsksForCheckpoints words.is_aeron words.checkpoints words.no_checkpoints options.makes_checkpoints
     pub begins : options.begins_short ≡ options.makes_checkpoints
+    pub named : HasName
 
   -- the words name no address, or no ports
   abbrev pub HasNoEnds : Type 0

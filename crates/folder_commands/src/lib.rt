@@ -9,6 +9,7 @@ mod concluding;
 mod exit;
 mod flushing;
 mod hidden;
+mod log;
 mod looking;
 mod observers;
 mod open_folder;

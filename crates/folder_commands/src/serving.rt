@@ -8,21 +8,23 @@ ghost use Rattle.host_disk.specs.Events.{Given};
 ghost use Rattle.host_disk.specs.HostDisk.{host_life};
 ghost use Rattle.folder_commands.specs.declared.status.Ending.TheVariants.{NoCommand, Failed, Refused};
 ghost use Rattle.folder_commands.specs.declared.why.Why.TheVariants.{Usage};
+ghost use Rattle.command_line.specs.declared.usage.UsageError.TheVariants.{Name};
 ghost use Rattle.frame_core.specs.declared.refusal.Refusal.TheVariants.{NotCatalogue};
 ghost use Rattle.folder_commands.specs.Folders.{ending_in};
 ghost use Rattle.folder_commands.specs.Left.{ends_with, leaves, left_life, sees};
-ghost use Rattle.folder_commands.specs.Serving.{AreOptions, AsksForCheckpoints, HasBadCheckpoints, HasBadOptions, HasBadSegments, HasBadStreams, HasBadWindow, HasNoEnds, HasSegments, HasWindow, IsAddressReason, HasCatalogue, IsNoAddress, IsReceiverWindow, IsSegmentLength, IsUnbound, LacksCatalogue, RecordsStreams, ServesFolder, ServesOver, checkpoints_reason, segment_reason, streams_reason, window_reason};
+ghost use Rattle.folder_commands.specs.Serving.{AreOptions, AsksForCheckpoints, HasBadCheckpoints, HasBadName, HasBadOptions, HasBadSegments, HasBadStreams, HasBadWindow, HasNoEnds, HasSegments, HasWindow, IsAddressReason, HasCatalogue, HasName, IsNoAddress, IsReceiverWindow, IsSegmentLength, IsUnbound, LacksCatalogue, RecordsStreams, ServesFolder, ServesOver, checkpoints_reason, is_name_byte, is_recorder_name, segment_reason, streams_reason, window_reason};
 
 use crate::exit::Exit;
 use crate::flushing::FolderFlusher;
-use crate::hidden::warns_of_hidden;
+use crate::hidden::warns_of_hidden_by;
+use crate::log::Log;
 use crate::open_folder::closed;
 use crate::outcome::{Left, Outcome};
 use crate::reporting::{MetricsFile, ServeFaults, ServeReporter};
 use crate::status::Ending;
 use crate::waiting::disk_within;
 use crate::why::Why;
-use archive_commands::{Screen, Stop, Watched};
+use archive_commands::{Stop, Watched};
 use clap::error::ErrorKind;
 use command_line::{ServeWords, UsageError};
 use disk_core::{Disk, Fault, FileId};
@@ -40,12 +42,14 @@ use std::rt::Clock;
 use std::sync::Wait;
 use std::thread::Threads;
 
+/// Bytes of a recorder's name at most.
+const LONGEST_NAME: usize = 64;
 /// Streams that `--record` may name at most.
 const MOST_STREAMS: usize = 64;
 
 /// Where control lines and datagrams come to.
 #[derive(Clone, Copy, Drop)]
-struct Ends {
+struct Addresses {
     address: Ipv4Addr,
     control: u16,
     receive: u16,
@@ -70,14 +74,14 @@ pub(crate) fn serve<
     ensures { ServesFolder given words.now (sees result) (leaves result) (ends_with result) }
 {
     let options = options_of(words, receiver_id(&rt))?;
-    let ends = ends_of(words)?;
+    let addresses = addresses_of(words)?;
     let folder = Path::new(words.folder);
     let disk = disk_within(rt, folder, words.wait)?;
-    let ports = match bound(net, &ends) {
+    let ports = match bound(net, &addresses) {
         Ok(ports) => ports,
         Err(exit) => return Err(unserved(exit, disk)),
     };
-    let looked = warns_of_hidden(rt, folder, &Screen::new(net));
+    let looked = warns_of_hidden_by(rt, folder, &log_of(net, words));
     let options = begun(options, looked.is_none());
     if let Some(looked) = looked {
         if words.is_strict {
@@ -92,10 +96,10 @@ pub(crate) fn serve<
         Ok(disk) => disk,
         Err((exit, disk)) => return Err(unserved(exit, disk)),
     };
-    let disk = Watched::new(disk, ServeFaults::new(rt.alloc(), net));
+    let disk = Watched::new(disk, ServeFaults::new(rt.alloc(), log_of(net, words)));
     let metrics = metrics_of(rt, words);
-    let reporter = ServeReporter::new(net, words.is_quiet, metrics);
-    let flusher = FolderFlusher::new(net, rt, folder);
+    let reporter = ServeReporter::new(log_of(net, words), words.is_quiet, metrics);
+    let flusher = FolderFlusher::new(log_of(net, words), rt, folder);
     let (disk, done) = serve_disk(net, rt.alloc(), ports, disk, &options, reporter, &flusher);
     Outcome::leaving(done, closed(disk))
 }
@@ -180,14 +184,15 @@ fn receiver_id(source: &impl RandomSource) -> i64 {
     }
 }
 
-/// The options of a server with this receiver's number that the words ask for. Refused if they name a bad receiver window, or bad
-/// streams or segments.
+/// The options of a server with this receiver's number that the words ask for. Refused if they name a bad receiver window, bad
+/// streams or segments, or no name of a recorder.
 fn options_of<'a>(words: &'a ServeWords<'_>, receiver_id: i64) -> Result<ServeOptions<'a>, Exit>
     ensures { MatchResult result
         (AreOptions words.now receiver_id)
         (λ exit. HasBadOptions words.now × (exit.ending ≡ NoCommand ValueValidation)) }
 {
     let makes_checkpoints = makes_checkpoints(words)?;
+    check_name(words)?;
     Ok(ServeOptions {
         idle_seconds: u64::from(words.idle),
         settle_every: u64::from(words.settle_every),
@@ -201,6 +206,38 @@ fn options_of<'a>(words: &'a ServeWords<'_>, receiver_id: i64) -> Result<ServeOp
         makes_checkpoints,
         begins_short: makes_checkpoints,
     })
+}
+
+/// Refused if the name that the words give is no name of a recorder.
+fn check_name(words: &ServeWords<'_>) -> Result<(), Exit>
+    ensures named { MatchResult result (λ _. HasName words.now) (λ exit.
+        HasBadName words.now × (exit.ending ≡ NoCommand ValueValidation)) }
+    ensures why { IfErr result (λ exit. exit.why ≡ Usage Name) }
+{
+    match words.name {
+        Some(name) if !is_recorder_name(name) => Err(misworded(UsageError::Name)),
+        _ => Ok(()),
+    }
+}
+
+/// Whether a text may be the name of a recorder.
+fn is_recorder_name(text: &str) -> bool
+    ensures { result ≡ is_recorder_name text.now }
+{
+    let bytes = text.as_bytes();
+    1 <= bytes.len() && bytes.len() <= LONGEST_NAME && bytes.iter().all(|byte| is_name_byte(*byte))
+}
+
+/// Whether a byte may stand in the name of a recorder: a letter or a digit of ASCII, `_`, `.` or `-`.
+fn is_name_byte(byte: u8) -> bool
+    ensures { result ≡ is_name_byte byte }
+{
+    (b'0' <= byte && byte <= b'9')
+        || (b'A' <= byte && byte <= b'Z')
+        || (b'a' <= byte && byte <= b'z')
+        || byte == b'_'
+        || byte == b'.'
+        || byte == b'-'
 }
 
 /// The greatest receiver window that the words ask for, in bytes; None without `--aeron`. Refused if `--window` comes without
@@ -312,13 +349,13 @@ fn address_of(word: &str) -> Result<Ipv4Addr, Exit>
 }
 
 /// The address and the ports that the words name. Refused if they name none.
-fn ends_of(words: &ServeWords<'_>) -> Result<Ends, Exit>
+fn addresses_of(words: &ServeWords<'_>) -> Result<Addresses, Exit>
     ensures { MatchResult result
         (λ _. HasNoEnds words.now → ⊥)
         (λ exit. HasNoEnds words.now × (exit.ending ≡ NoCommand ValueValidation)) }
 {
     let address = address_of(words.receive_on)?;
-    Ok(Ends {
+    Ok(Addresses {
         address,
         control: port_of(words.control)?,
         receive: port_of(words.receive)?,
@@ -328,17 +365,17 @@ fn ends_of(words: &ServeWords<'_>) -> Result<Ends, Exit>
 /// Binds the ports: control lines to 127.0.0.1 alone, datagrams to an address. Refused if the system refuses one.
 fn bound<R: Net<Listener = TcpListener, Stream = TcpStream>>(
     net: &R,
-    ends: &Ends,
+    addresses: &Addresses,
 ) -> Result<Ports, Exit>
     ensures { IfErr result (λ exit. IsUnbound exit.ending) }
 {
-    let listener = match TcpListener::bind(net, (Ipv4Addr::LOCALHOST, ends.control)) {
+    let listener = match TcpListener::bind(net, (Ipv4Addr::LOCALHOST, addresses.control)) {
         Ok(listener) => listener,
-        Err(error) => return Err(unbound(ends.control, error)),
+        Err(error) => return Err(unbound(addresses.control, error)),
     };
-    match UdpSocket::bind(net, (ends.address, ends.receive)) {
+    match UdpSocket::bind(net, (addresses.address, addresses.receive)) {
         Ok(socket) => Ok(Ports { listener, socket }),
-        Err(error) => Err(unbound(ends.receive, error)),
+        Err(error) => Err(unbound(addresses.receive, error)),
     }
 }
 
@@ -361,6 +398,11 @@ fn unbound(port: u16, error: io::Error) -> Exit
         ending: Ending::Failed(error.kind()),
         why: Why::Port(port, error),
     }
+}
+
+/// Where the lines of a server go whose words these are.
+fn log_of<'a, R: Eprint + Clock>(net: &'a R, words: &ServeWords<'a>) -> Log<'a, R> {
+    Log::new(net, words.name, words.logs_times)
 }
 
 /// The metrics file that the words ask for.

@@ -361,6 +361,42 @@ fn wrong_words_of_a_server(rt: HostRuntime) -> Result<(), Fail> {
     Ok(())
 }
 
+/// A name of a recorder has 1 to 64 letters, digits, `_`, `.` and `-`.
+#[test]
+fn names_of_a_server(rt: HostRuntime) -> Result<(), Fail> {
+    let (absent, wrong) = (
+        "the folder is not there",
+        "--name wants 1 to 64 of the characters A-Z, a-z, 0-9, _, . and -",
+    );
+    let longest = "AZaz09_.-0123456789012345678901234567890123456789012345678901234";
+    let folder = format!(in rt.alloc(); "{}/archive_tool-unnamed", env::temp_dir(&rt)?.display())?;
+    let longer = format!(in rt.alloc(); "{longest}5")?;
+    let mut out = Vec::new(rt.alloc());
+    for (name, reason, status) in [
+        (longest, absent, 3),
+        ("a", absent, 3),
+        (longer.as_str(), wrong, 2),
+        ("", wrong, 2),
+        ("a b", wrong, 2),
+        ("a\"", wrong, 2),
+        ("/", wrong, 2),
+        (":", wrong, 2),
+        ("@", wrong, 2),
+        ("[", wrong, 2),
+        ("`", wrong, 2),
+        ("{", wrong, 2),
+        ("\u{e9}", wrong, 2),
+    ] {
+        let mut words = unserved(rt.alloc(), folder.as_str(), "127.0.0.1", false, None);
+        words.name = Some(name);
+        let ended = ended(&rt, rt, ToolCommand::Serve(words), NO_LINES, &mut out);
+        let streams = Streams::new(rt.alloc(), reason);
+        assert!(rt; concluded(&streams, ended) == status, "{name} {status}");
+        assert!(rt; streams.awaited_came.get(), "{name} {status}");
+    }
+    Ok(())
+}
+
 /// So many streams.
 fn streams_of(alloc: Global, count: i32) -> Result<Vec<i32>, AllocError> {
     let mut streams = Vec::new(alloc);

@@ -1,7 +1,7 @@
 //! What `describe` tells of the archives of disks: docs/CONTROL.md, "A page for people".
 
 use super::views::{SCRIPT, after};
-use archive_report::{Form, describe_archive};
+use archive_report::{Form, Moment, describe_archive};
 use disk_core::{Disk, FileId, MemoryDisk};
 use std::alloc::Global;
 use std::test::*;
@@ -229,4 +229,20 @@ fn a_stop_before_its_start(rt: HostRuntime) -> Result<(), Fail> {
         \"session_id\":7,\"source_identity\":\"\",\"start_position\":0,\"start_timestamp\":1000,\"started\":\"1970-01-01T00:00:01Z\",\
         \"stop_timestamp\":999,\"stopped\":null,\"stream_id\":1001,\"term_length\":65536}\n",
     )
+}
+
+/// A moment has all digits of its milliseconds.
+#[test]
+fn a_moment(rt: HostRuntime) -> Result<(), Fail> {
+    for (millis, told) in [
+        (0, "1970-01-01T00:00:00.000Z"),
+        (1_000_120, "1970-01-01T00:16:40.120Z"),
+        (1_764_405_696_007, "2025-11-29T08:41:36.007Z"),
+        (-1, "1970-01-01T00:00:00.000Z"),
+        (i64::MAX, "9223372036854775807"),
+    ] {
+        let text = Moment(millis).to_string(rt.alloc())?;
+        assert!(rt; text.as_str() == told, "{millis}");
+    }
+    Ok(())
 }
