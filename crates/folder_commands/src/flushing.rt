@@ -1,6 +1,7 @@
 //! Segment files of a served folder that are flushed beside the archive. docs/SERVING.md, "When a frame is durable";
 //! docs/STORAGE.md, "Folders".
 
+use crate::log::{Level, Log};
 use crate::why::SystemText;
 use disk_core::FileId;
 use server::Flusher;
@@ -8,6 +9,7 @@ use std::fmt;
 use std::fs::{self, File};
 use std::io::{self, Eprint, ErrorKind};
 use std::path::Path;
+use std::rt::Clock;
 
 /// Files that are flushed at a time.
 const FLUSHED: usize = 8;
@@ -15,23 +17,23 @@ const FLUSHED: usize = 8;
 /// Flushes files of a folder, each by a second opening, and reports on standard error that a flush has failed.
 #[derive(Drop)]
 pub(crate) struct FolderFlusher<'a, R> {
-    errors: &'a R,
+    log: Log<'a, R>,
     rt: HostRuntime,
     folder: &'a str,
 }
 
 impl<'a, R> FolderFlusher<'a, R> {
     /// Flushes files of the folder of a path.
-    pub(crate) fn new(errors: &'a R, rt: HostRuntime, folder: Path<'a>) -> FolderFlusher<'a, R> {
+    pub(crate) fn new(log: Log<'a, R>, rt: HostRuntime, folder: Path<'a>) -> FolderFlusher<'a, R> {
         FolderFlusher {
-            errors,
+            log,
             rt,
             folder: folder.as_str(),
         }
     }
 }
 
-impl<R: Eprint> Flusher for FolderFlusher<'_, R> {
+impl<R: Eprint + Clock> Flusher for FolderFlusher<'_, R> {
     fn width(&self) -> usize {
         FLUSHED
     }
@@ -48,7 +50,7 @@ impl<R: Eprint> Flusher for FolderFlusher<'_, R> {
     }
 
     fn failed(&self, file: FileId, error: io::Error) {
-        let _ = self.errors.eprintln(FlushFault(file, error));
+        self.log.print(Level::Error, FlushFault(file, error));
     }
 }
 

@@ -21,8 +21,7 @@ use engine_core::Engine;
 use frame_core::limits::{LONGEST_DATAGRAM, MAX_WAITING_BLOCKS};
 use server_receiver::{Images, Receiver, Reception, Senders, TENDING};
 use server_recorder::{
-    Flusher, OwnRecordings, Recording, SeatRoom, Seats, Unflushed, note_standing, parted,
-    record_all,
+    Flusher, OwnRecordings, Recording, SeatRoom, Seats, Unflushed, begin_short, parted, record_all,
 };
 use server_state::{ArchiveNews, FedBlock, Happening, Reporter, Shared, SharedOptions, Unreported};
 use std::alloc::{AllocError, Global};
@@ -53,6 +52,8 @@ struct Serving<'a, R, T, F> {
     segment_length: i32,
     /// Whether the server ends once it can record nothing.
     is_strict: bool,
+    /// Whether a checkpoint is made before the first line.
+    begins_short: bool,
     shared: &'a Shared<T>,
     /// What the threads that serve clients share.
     lines: &'a Connections<T>,
@@ -123,6 +124,8 @@ pub fn serve_on<R: Threads + Wait + Clock + Sync, D: Disk + Drop + Send>(
 ///
 /// A strict server ends by itself once its archive can record nothing: it can't be opened, a write has failed, or its history is
 /// full. What comes back says which, whatever ended the server.
+///
+/// A server that makes checkpoints makes its history short while recordings go on: docs/SERVING.md, "How long a history lasts".
 ///
 /// `Memory` if the opening finds none, or a thread can't be made; `Read` if the listener or the socket fails. A reply that
 /// finds no memory ends its connection. Costs memory for 64 images, each of which holds 1,048,576 bytes of its stream at
@@ -202,6 +205,7 @@ pub fn serve_flushing<
         streams: options.streams,
         segment_length: options.segment_length,
         is_strict: options.is_strict,
+        begins_short: options.begins_short,
         shared: &lines.shared,
         lines: &lines,
         flusher,
@@ -218,6 +222,7 @@ fn shared_by(options: &ServeOptions<'_>) -> SharedOptions {
         gives_back: options.window.is_some(),
         is_strict: options.is_strict,
         is_measured: options.is_measured,
+        makes_checkpoints: options.makes_checkpoints,
     }
 }
 
@@ -326,8 +331,7 @@ fn serve_named<
     };
     let (pass, clients) = parted::<A>(passes, room);
     let mut seats = seat_room.seated::<A>(pass);
-    let standing = seats.standing(with.rt, &archive);
-    note_standing(with.shared, &standing);
+    begin_short(&recording_of(with, &archive), &mut seats, with.begins_short);
     with.shared.meter.set_open();
     let (passes, end) = serve_shared(with, tools, &archive, clients, seats);
     (closed(archive, passes, with.is_strict), end)
@@ -446,13 +450,7 @@ fn record<D: Disk, A: Naming, R: Threads + Wait + Clock + Sync, T: Reporter, F: 
     mut seats: Seats<A>,
     mut batch: VecDeque<FedBlock>,
 ) -> Seats<A> {
-    let recording = Recording {
-        rt: with.rt,
-        alloc: with.alloc,
-        archive,
-        shared: with.shared,
-        socket: with.socket,
-    };
+    let recording = recording_of(with, archive);
     let own = OwnRecordings::new(with.segment_length);
     record_all(
         &recording,
@@ -463,6 +461,20 @@ fn record<D: Disk, A: Naming, R: Threads + Wait + Clock + Sync, T: Reporter, F: 
         with.flusher,
     );
     seats
+}
+
+/// What the thread that records works with.
+fn recording_of<'x, D: Disk, A: Naming, R, T, F>(
+    with: &Serving<'x, R, T, F>,
+    archive: &'x SharedArchive<D, A>,
+) -> Recording<'x, D, A, R, T> {
+    Recording {
+        rt: with.rt,
+        alloc: with.alloc,
+        archive,
+        shared: with.shared,
+        socket: with.socket,
+    }
 }
 
 /// Receives until the server ends, and ends it if no more can be received. Whether more could be.

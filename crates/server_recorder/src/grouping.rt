@@ -1,11 +1,11 @@
 //! Sessions that are due, which settle together, and whose segment files are flushed before. docs/SERVING.md, "When a frame is
 //! durable".
 
+use crate::checkpoints::keep_short;
 use crate::flushing::Flushing;
 use crate::recording::{Recording, note_settled, note_time, settle};
 use crate::seats::Seats;
 use crate::settling::Settling;
-use crate::stopping::note_standing;
 use archive_lock::Naming;
 use disk_core::Disk;
 use frame_core::Refusal;
@@ -120,7 +120,7 @@ fn settle_group<D: Disk, A: Naming, R: Wait + Clock, T: Reporter>(
         Err(_) => false,
     };
     if let Some(standing) = standing {
-        note_standing(with.shared, &standing);
+        keep_short(with, seats, &standing);
     }
     is_done
 }

@@ -1,6 +1,7 @@
 //! The thread of a server that records: seats of sessions, settlings, and recordings that nobody asked for.
 #![tactic(auto)]
 
+mod checkpoints;
 mod flushing;
 mod grouping;
 mod own_recordings;
@@ -11,6 +12,7 @@ mod stopping;
 mod streams;
 mod writing;
 
+pub use checkpoints::{begin_short, is_begun, note_checkpoint};
 pub use flushing::{Flusher, Unflushed};
 pub use own_recordings::OwnRecordings;
 pub use recording::{Recording, record_all};

@@ -1,5 +1,6 @@
 //! The thread that records. docs/ARCHITECTURE.md, "Serving".
 
+use crate::checkpoints::{keep_short, retry_when_full, wait_at_most};
 use crate::flushing::{Flusher, Flushing, MOST_FLUSHED};
 use crate::grouping::settle_due;
 use crate::own_recordings::OwnRecordings;
@@ -42,7 +43,8 @@ pub struct Recording<'a, D: Disk, A: Naming, R, T> {
 /// Then nobody waits for a settling any more. Sessions that are due together settle together. Where syncs are slow their segment
 /// files are flushed first, by threads that end with this one: as many as the flusher wants, 8 at most, as far as there are any.
 ///
-/// Where the archive stands is noted after each settling, and after each call for a recording that nobody asked for, by what
+/// A checkpoint is made after a settling or a call of the server's own which leaves it due, and tried each second while the history
+/// is full. Where the archive stands is noted after each settling, and after each call for a recording that nobody asked for, by what
 /// came with the answer. After a write that the disk failed the lock is taken once more for it. Nothing else is noted.
 pub fn record_all<
     D: Disk,
@@ -83,12 +85,14 @@ fn record_batches<D: Disk, A: Naming, R: Wait + Clock, T: Reporter>(
     let watch = Stopwatch::new(with.rt);
     let mut settling = Settling::new(settle_every);
     let mut run = Run::new(with.alloc);
+    let mut tried = None;
     for _ in with.rt.forever() {
         let taken = take_batch(with, &watch, &mut settling, batch);
         write_batch(with, seats, &mut settling, batch, &mut run);
         settle_due(with, seats, &mut settling, &taken, flushing);
         settle_leaving(with, seats, &mut settling, &taken);
         own.follow(with, seats, &taken, watch.read(with.rt));
+        retry_when_full(with, seats, &watch, &mut tried);
         with.shared.queue.answer(with.rt);
         if taken.is_over {
             break;
@@ -108,7 +112,7 @@ fn take_batch<D: Disk, A: Naming, R: Wait + Clock, T: Reporter>(
         with.shared.look_round(with.socket);
     }
     settling.set_time(watch.read(with.rt));
-    let wait = settling.next_due();
+    let wait = wait_at_most(with.shared, settling.next_due());
     let taken = with.shared.queue.take(with.rt, batch, wait);
     settling.set_time(watch.read(with.rt));
     taken
@@ -166,7 +170,7 @@ pub(crate) fn settle<D: Disk, A: Naming, R: Wait + Clock, T: Reporter>(
         Err(cause) => with.shared.refused(with.rt, written.session, cause),
     }
     if let Some(standing) = standing {
-        note_standing(with.shared, &standing);
+        keep_short(with, seats, &standing);
     }
     answer.is_ok()
 }
