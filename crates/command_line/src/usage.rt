@@ -25,6 +25,14 @@ pub enum UsageError {
     NeedsRecord,
     /// The word of `--segment-length` is not a power of two in its range.
     SegmentLength,
+    /// The word of `--name` is no name.
+    Name,
+    /// The word of `--consumers-on` is no address.
+    ConsumersAddress,
+    /// The word of `--consumers-on` is a multicast address.
+    ConsumersMulticast,
+    /// `--consumers-on` comes without `--consumers`.
+    NeedsConsumers,
     /// Lines may not be sent at once.
     Lines,
     /// The word of `--until` is more than one line.
@@ -46,6 +54,14 @@ impl fmt::Display for UsageError {
             UsageError::Streams => "--record may be given at most 64 times",
             UsageError::NeedsRecord => "--segment-length needs --record",
             UsageError::SegmentLength => "--segment-length wants a power of two",
+            UsageError::Name => {
+                "--name wants 1 to 64 of the characters A-Z, a-z, 0-9, _, . and -"
+            }
+            UsageError::ConsumersAddress => "--consumers-on wants an IPv4 address",
+            UsageError::ConsumersMulticast => {
+                "--consumers-on wants an address of this machine, not a multicast address"
+            }
+            UsageError::NeedsConsumers => "--consumers-on needs --consumers",
             UsageError::Lines => "lines have no line feed, and with their ends at most 65536 bytes",
             UsageError::Until => "--until wants a line without a line feed",
         })

@@ -1,5 +1,5 @@
 -- What a command does over a folder, whatever files that holds, and a writer, and how it ends: docs/CONTROL.md, "The program".
-use Rattle.std.specs.Prelude.{◌≡◌, ◌⊎◌, ℕ, Bool, [], List, Option, None, Some, Result, Ok, Err, IsTrue, codes}
+use Rattle.std.specs.Prelude.{◌≡◌, ◌⊎◌, ℕ, ℤ, Bool, [], List, Option, None, Some, Result, Ok, Err, IsTrue, codes}
 use Rattle.std.specs.Io.KnownBytes.{Appends}
 use Rattle.frame_core.specs.declared.refusal.Refusal.TheVariants.{DeviceFault}
 use Rattle.disk_core.specs.Life.{IsQuiet, Life}
@@ -65,13 +65,13 @@ module _ (given : Given) where
       (λ new why. FailsToList (life_from given) new why contents written)
       contents written
 
-  -- `verify`: behind at most a listing of its files each of its recordings was verified, and the answers are written; damage is
-  -- found where one is no reply
-  abbrev pub VerifiesFolder : Option (List ℕ) → Option (List ℕ) → Option Life → Ending → Type 0
-  VerifiesFolder contents written = EndsAs
-      (λ new. (old : Life) × IsQuiet (life_from given) old × HasVerified old new contents written verdicts.Whole)
-      (λ new. (old : Life) × IsQuiet (life_from given) old × HasVerified old new contents written verdicts.Refused)
-      (λ new why. (old : Life) × IsQuiet (life_from given) old × FailsToVerify old new why contents written)
+  -- `verify`: behind at most a listing of its files each of its recordings was verified, or the one that was asked for, and the
+  -- answers are written; damage is found where one is no reply
+  abbrev pub VerifiesFolder : Option ℤ → Option (List ℕ) → Option (List ℕ) → Option Life → Ending → Type 0
+  VerifiesFolder asked contents written = EndsAs
+      (λ new. (old : Life) × IsQuiet (life_from given) old × HasVerified asked old new contents written verdicts.Whole)
+      (λ new. (old : Life) × IsQuiet (life_from given) old × HasVerified asked old new contents written verdicts.Refused)
+      (λ new why. (old : Life) × IsQuiet (life_from given) old × FailsToVerify asked old new why contents written)
       contents written
 
   -- `create`: an archive without recordings was made, with this limit of its history, or was not; or the folder itself was not,

@@ -23,6 +23,7 @@ use crate::serving::serve;
 use crate::sound_disk::SoundDisk;
 use crate::status::Ending;
 use crate::verifying::verify;
+use crate::waiting::disk_within;
 use crate::why::Why;
 use archive_commands::{
     CommandFault, Listing, OpeningProgress, Screen, Stage, Stop, Watched, compact_archive,
@@ -83,20 +84,36 @@ fn obey<
     match command {
         ToolCommand::Serve(words) => serve(net, rt, words),
         ToolCommand::Create { folder, history } => create(rt, Path::new(folder), *history, writer),
-        ToolCommand::Compact { folder } => compact(rt, Path::new(folder), writer),
+        ToolCommand::Compact { folder, wait } => compact(rt, Path::new(folder), *wait, writer),
         ToolCommand::Run {
             folder: None,
             checkpoints,
+            ..
         } => Outcome::leaving(run_without_folder(rt, *checkpoints, input, writer), None),
         ToolCommand::Run {
             folder: Some(folder),
             checkpoints,
-        } => run(rt, Path::new(folder), *checkpoints, input, writer),
-        ToolCommand::List { folder, read_only } => list(rt, Path::new(folder), *read_only, writer),
-        ToolCommand::Verify { folder, read_only } => {
-            verify(rt, Path::new(folder), *read_only, writer)
+            wait,
+        } => run(rt, Path::new(folder), *checkpoints, *wait, input, writer),
+        ToolCommand::List {
+            folder,
+            read_only,
+            wait,
+        } => list(rt, Path::new(folder), *read_only, *wait, writer),
+        ToolCommand::Verify {
+            folder,
+            recording,
+            read_only,
+            wait,
+        } => {
+            let folder = Path::new(folder);
+            verify(rt, folder, *recording, *read_only, *wait, writer)
         }
-        ToolCommand::Describe { folder, json } => describe(rt, Path::new(folder), *json, writer),
+        ToolCommand::Describe {
+            folder,
+            recording,
+            json,
+        } => describe(rt, Path::new(folder), *recording, *json, writer),
         ToolCommand::Export {
             folder,
             recording,
@@ -218,6 +235,7 @@ fn run<I: Read + Drop, W: Write>(
     rt: HostRuntime,
     folder: Path<'_>,
     checkpoints: bool,
+    wait: Option<u32>,
     input: I,
     writer: &mut W,
 ) -> Result<Left, Outcome>
@@ -227,7 +245,7 @@ fn run<I: Read + Drop, W: Write>(
     let screen = Screen::new(&rt);
     let faults = FaultReporter::new(rt.alloc(), &screen, Stage::Opening);
     let viewer = (faults, opening_of(&rt, &screen));
-    let disk = Watched::new(disk_of(rt, folder)?, viewer);
+    let disk = Watched::new(disk_within(rt, folder, wait)?, viewer);
     let _ = warns_of_hidden(rt, folder, &screen);
     let (disk, done) = run_over(
         rt.alloc(),
@@ -283,12 +301,17 @@ fn script_of<I: Read + Drop, W: Write, D: Disk, O: Observer>(
 }
 
 /// Writes the catalogue of the archive in a folder anew.
-fn compact<W: Write>(rt: HostRuntime, folder: Path<'_>, writer: &mut W) -> Result<Left, Outcome>
+fn compact<W: Write>(
+    rt: HostRuntime,
+    folder: Path<'_>,
+    wait: Option<u32>,
+    writer: &mut W,
+) -> Result<Left, Outcome>
     ghost given: { Given }
     ensures { CompactsFolder given (W.contents writer.old) (W.contents writer.new) (leaves result) (ends_with result) }
 {
     let screen = Screen::new(&rt);
-    let disk = watched_disk(&rt, folder, &screen)?;
+    let disk = watched_disk(&rt, folder, wait, &screen)?;
     match compact_archive(rt.alloc(), disk, writer, &mut OpeningReporter::new(&screen)) {
         Ok(compacted) => Ok(closed(compacted)),
         Err(fault) => Err(uncompacted(fault)),
@@ -318,6 +341,7 @@ fn list<W: Write>(
     rt: HostRuntime,
     folder: Path<'_>,
     read_only: bool,
+    wait: Option<u32>,
     writer: &mut W,
 ) -> Result<Left, Outcome>
     ghost given: { Given }
@@ -329,17 +353,22 @@ fn list<W: Write>(
     if read_only {
         list_read_only(rt, folder, writer)
     } else {
-        list_opened(rt, folder, writer)
+        list_opened(rt, folder, wait, writer)
     }
 }
 
 /// Writes the recordings of the archive in a folder.
-fn list_opened<W: Write>(rt: HostRuntime, folder: Path<'_>, writer: &mut W) -> Result<Left, Outcome>
+fn list_opened<W: Write>(
+    rt: HostRuntime,
+    folder: Path<'_>,
+    wait: Option<u32>,
+    writer: &mut W,
+) -> Result<Left, Outcome>
     ghost given: { Given }
     ensures { ListsFolder given (W.contents writer.old) (W.contents writer.new) (leaves result) (ends_with result) }
 {
     let screen = Screen::new(&rt);
-    let disk = watched_disk(&rt, folder, &screen)?;
+    let disk = watched_disk(&rt, folder, wait, &screen)?;
     match list_archive(rt.alloc(), disk, writer, &mut OpeningReporter::new(&screen)) {
         Ok(disk) => Ok(closed(disk)),
         Err(fault) => Err(stopped(fault)),
@@ -374,19 +403,20 @@ fn frames_of<F: Read + Drop, W: Write>(alloc: Global, reader: F, writer: &mut W)
 fn watched_disk<'a>(
     rt: &'a HostRuntime,
     folder: Path<'_>,
+    wait: Option<u32>,
     screen: &'a Screen<'a, HostRuntime>,
 ) -> Result<Watched<HostDisk, Option<OpeningProgress<'a, HostRuntime>>>, Exit>
     ghost given: { Given }
     ensures begun { IfOk result (λ watched. host_life watched.disk ≡ life_from given) }
     ensures unopened { IfErr result (λ exit. IsUnopenedFolder exit.ending) }
 {
-    let disk = Watched::new(disk_of(*rt, folder)?, opening_of(rt, screen));
+    let disk = Watched::new(disk_within(*rt, folder, wait)?, opening_of(rt, screen));
     let _ = warns_of_hidden(*rt, folder, screen);
     Ok(disk)
 }
 
 /// The disk of a folder, which no other process has. It begins with the files that the folder holds.
-pub(crate) fn disk_of(rt: HostRuntime, folder: Path<'_>) -> Result<HostDisk, Exit>
+fn disk_of(rt: HostRuntime, folder: Path<'_>) -> Result<HostDisk, Exit>
     ghost given: { Given }
     ensures begun { IfOk result (λ disk. host_life disk ≡ life_from given) }
     ensures unopened { IfErr result (λ exit. IsUnopenedFolder exit.ending) }

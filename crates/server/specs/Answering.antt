@@ -9,7 +9,7 @@ use Rattle.archive_model.specs.declared.reply.Reply.{Reply}
 use Rattle.archive_model.specs.declared.reply.Reply.TheVariants.{ReplayOpened}
 use Rattle.disk_core.specs.Life.{Life}
 use Rattle.control_core.specs.declared.event.Event.{Event}
-use Rattle.control_core.specs.declared.event.Event.TheVariants.{Ask, Checkpoint, ReplayClose, Settle}
+use Rattle.control_core.specs.declared.event.Event.TheVariants.{Ask, Checkpoint, ReplayClose, Settle, SettleAll}
 use Rattle.control_core.specs.declared.request.Request.{Request}
 use Rattle.control_core.specs.declared.request.Request.TheVariants as requests
 use Rattle.control_core.specs.Bytes.{terms_in}
@@ -144,6 +144,7 @@ is_command request = true
 abbrev pub makes_entry : Event → Bool
 makes_entry (Ask request) = is_command request
 makes_entry (Settle session) = true
+makes_entry (SettleAll sessions) = true
 makes_entry event = false
 
 -- the device failed

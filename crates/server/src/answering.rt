@@ -84,9 +84,9 @@ impl<'a, D: Disk, A: Naming, R: Wait, T: Reporter> NotedArchive<'a, D, A, R, T> 
         ensures made { (outcome : Result Reply Refusal) × CallsOnce D.life A.opening Checkpoint pass.old outcome pass.new }
         ensures pass { (pass.new.table ≡ pass.old.table) × (pass.new.number ≡ pass.old.number) }
     {
-        let (outcome, after) =
-            self.archive
-                .call_with_standing(self.rt, alloc, pass, &Event::Checkpoint);
+        let (outcome, after) = self
+            .archive
+            .call_with_standing(self.rt, alloc, pass, &Event::Checkpoint);
         note_checkpoint(&self.with.shared, before, &outcome, &after);
     }
 
@@ -331,7 +331,7 @@ fn makes_entry(event: &Event) -> bool
 {
     match event {
         Event::Ask(request) => is_command(request),
-        Event::Settle { .. } => true,
+        Event::Settle { .. } | Event::SettleAll { .. } => true,
         _ => false,
     }
 }

@@ -11,22 +11,20 @@ use frame_core::Refusal;
 use server_state::{Reporter, Shared, Stopwatch};
 use std::rt::Clock;
 use std::sync::Wait;
-use stream_pairs::Seat;
 use tool_core::CheckpointOutcome;
 
 /// Milliseconds after which a checkpoint of a full history is tried again.
 const SECOND: u64 = 1_000;
 
-/// Notes where an archive stands after a call by the pass of a seat. If a checkpoint is due then, it is made by that pass first,
+/// Notes where an archive stands after a call by the pass of the seats. If a checkpoint is due then, it is made by that pass first,
 /// and noted. The history is as long as before if it is refused.
 pub(crate) fn keep_short<D: Disk, A: Naming, R: Wait, T: Reporter>(
     with: &Recording<'_, D, A, R, T>,
     seats: &mut Seats<A>,
-    seat: Seat,
     standing: &Standing,
 ) {
     if is_begun(with.shared, standing) {
-        make(with, seats, seat, standing);
+        make(with, seats, standing);
     } else {
         note_standing(with.shared, standing);
     }
@@ -39,24 +37,21 @@ pub fn begin_short<D: Disk, A: Naming, R: Wait, T: Reporter>(
     seats: &mut Seats<A>,
     is_asked: bool,
 ) {
-    let Some(standing) = seats.standing(with.rt, with.archive, 0) else {
-        return;
-    };
+    let standing = seats.standing(with.rt, with.archive);
     note_standing(with.shared, &standing);
     let is_long = standing.counted > 0 || standing.version == BankVersion::One;
     if is_asked && is_long && with.shared.checkpointing.begins_now() {
-        make(with, seats, 0, &standing);
+        make(with, seats, &standing);
     }
 }
 
-/// Makes a checkpoint that has begun, by the pass of a seat, and notes how it ended.
+/// Makes a checkpoint that has begun, by the pass of the seats, and notes how it ended.
 fn make<D: Disk, A: Naming, R: Wait, T: Reporter>(
     with: &Recording<'_, D, A, R, T>,
     seats: &mut Seats<A>,
-    seat: Seat,
     before: &Standing,
 ) {
-    let (outcome, after) = seats.call(with.rt, with.alloc, with.archive, seat, &Event::Checkpoint);
+    let (outcome, after) = seats.call(with.rt, with.alloc, with.archive, &Event::Checkpoint);
     note_checkpoint(with.shared, before, &outcome, &after);
 }
 
@@ -106,12 +101,10 @@ pub(crate) fn retry_when_full<D: Disk, A: Naming, R: Wait + Clock, T: Reporter>(
         return;
     }
     *tried = watch.read(with.rt);
-    let Some(standing) = seats.standing(with.rt, with.archive, 0) else {
-        return;
-    };
+    let standing = seats.standing(with.rt, with.archive);
     let is_long = standing.counted > standing.active && !standing.is_broken;
     if is_long && shared.checkpointing.begins_now() {
-        make(with, seats, 0, &standing);
+        make(with, seats, &standing);
     }
 }
 

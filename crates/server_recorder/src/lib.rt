@@ -2,14 +2,18 @@
 #![tactic(auto)]
 
 mod checkpoints;
+mod flushing;
+mod grouping;
 mod own_recordings;
 mod recording;
 mod seats;
 mod settling;
 mod stopping;
 mod streams;
+mod writing;
 
 pub use checkpoints::{begin_short, is_begun, note_checkpoint};
+pub use flushing::{Flusher, Unflushed};
 pub use own_recordings::OwnRecordings;
 pub use recording::{Recording, record_all};
 pub use seats::{SeatRoom, Seats, parted};

@@ -10,3 +10,5 @@ pub mod Asking
 pub mod Stopwatch
 -- Checkpoints that were refused.
 pub mod Checkpointing
+-- Where a publication goes on before its setup frame.
+pub mod Resuming

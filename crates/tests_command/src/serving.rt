@@ -29,6 +29,10 @@ pub(crate) fn usual<'a>(alloc: Global) -> ServeWords<'a> {
         metrics: None,
         checkpoints: false,
         no_checkpoints: false,
+        name: None,
+        logs_times: false,
+        no_create: false,
+        wait: None,
     }
 }
 
@@ -136,6 +140,37 @@ fn serve_has_its_checkpoints(rt: HostRuntime) -> Result<(), Fail> {
         words.is_aeron = is_aeron;
         words.checkpoints = checkpoints;
         words.no_checkpoints = no_checkpoints;
+        assert!(rt;
+            asks_for(rt.alloc(), line.as_str(), ToolCommand::Serve(words))?,
+            "{line}"
+        );
+    }
+    Ok(())
+}
+
+/// Its name, whether lines have their times, whether an archive has to be there, and for how long it is waited for.
+#[test]
+fn serve_has_its_operation(rt: HostRuntime) -> Result<(), Fail> {
+    for (options, name, logs_times, no_create, wait) in [
+        ("--name a-1", Some("a-1"), false, false, None),
+        ("--log-times --name=", Some(""), true, false, None),
+        ("--no-create --wait 30", None, false, true, Some(30)),
+        (
+            "--wait=1 --no-create --log-times",
+            None,
+            true,
+            true,
+            Some(1),
+        ),
+    ] {
+        let line = format!(in rt.alloc();
+            "archive_tool serve a --control 1 --receive 2 {options}"
+        )?;
+        let mut words = usual(rt.alloc());
+        words.name = name;
+        words.logs_times = logs_times;
+        words.no_create = no_create;
+        words.wait = wait;
         assert!(rt;
             asks_for(rt.alloc(), line.as_str(), ToolCommand::Serve(words))?,
             "{line}"
@@ -255,7 +290,7 @@ fn a_missing_port(rt: HostRuntime) -> Result<(), Fail> {
 }
 
 /// Words of `serve` over a folder that is not there, on ports that the system chooses.
-fn unserved<'a>(
+pub(crate) fn unserved<'a>(
     alloc: Global,
     folder: &'a str,
     receive_on: &'a str,
@@ -279,6 +314,10 @@ fn unserved<'a>(
         metrics: None,
         checkpoints: false,
         no_checkpoints: false,
+        name: None,
+        logs_times: false,
+        no_create: false,
+        wait: None,
     }
 }
 
@@ -318,6 +357,42 @@ fn wrong_words_of_a_server(rt: HostRuntime) -> Result<(), Fail> {
         let streams = Streams::new(rt.alloc(), reason);
         assert!(rt; concluded(&streams, ended) == status, "{reason} {status}");
         assert!(rt; streams.awaited_came.get(), "{reason} {status}");
+    }
+    Ok(())
+}
+
+/// A name of a recorder has 1 to 64 letters, digits, `_`, `.` and `-`.
+#[test]
+fn names_of_a_server(rt: HostRuntime) -> Result<(), Fail> {
+    let (absent, wrong) = (
+        "the folder is not there",
+        "--name wants 1 to 64 of the characters A-Z, a-z, 0-9, _, . and -",
+    );
+    let longest = "AZaz09_.-0123456789012345678901234567890123456789012345678901234";
+    let folder = format!(in rt.alloc(); "{}/archive_tool-unnamed", env::temp_dir(&rt)?.display())?;
+    let longer = format!(in rt.alloc(); "{longest}5")?;
+    let mut out = Vec::new(rt.alloc());
+    for (name, reason, status) in [
+        (longest, absent, 3),
+        ("a", absent, 3),
+        (longer.as_str(), wrong, 2),
+        ("", wrong, 2),
+        ("a b", wrong, 2),
+        ("a\"", wrong, 2),
+        ("/", wrong, 2),
+        (":", wrong, 2),
+        ("@", wrong, 2),
+        ("[", wrong, 2),
+        ("`", wrong, 2),
+        ("{", wrong, 2),
+        ("\u{e9}", wrong, 2),
+    ] {
+        let mut words = unserved(rt.alloc(), folder.as_str(), "127.0.0.1", false, None);
+        words.name = Some(name);
+        let ended = ended(&rt, rt, ToolCommand::Serve(words), NO_LINES, &mut out);
+        let streams = Streams::new(rt.alloc(), reason);
+        assert!(rt; concluded(&streams, ended) == status, "{name} {status}");
+        assert!(rt; streams.awaited_came.get(), "{name} {status}");
     }
     Ok(())
 }

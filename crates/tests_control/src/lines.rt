@@ -42,6 +42,7 @@ fn started(line: &Line) -> Option<[bool; 4]> {
     }
 }
 
+/// The `start` line of docs/CONTROL.md is read, field by field.
 #[test]
 fn a_line_that_starts_a_recording(rt: HostRuntime) -> Result<(), Fail> {
     let are_told = started(&parse_line(rt.alloc(), START_LINE)?);
@@ -96,6 +97,7 @@ fn has_bytes(alloc: Global, line: &str) -> Result<bool, Refusal> {
     Ok(bytes_of(&line) == Some([0, 255, 160, 175].as_slice()))
 }
 
+/// Frames in hex are read in either case, in each line that has some.
 #[test]
 fn lines_with_bytes(rt: HostRuntime) -> Result<(), Fail> {
     for line in [
@@ -157,6 +159,7 @@ fn check_asked(alloc: Global, line: &str, asked: &str) -> Result<(), Fail> {
     }
 }
 
+/// Each line of the grammar is read as the call that it asks for.
 #[test]
 fn lines_that_ask_the_archive(rt: HostRuntime) -> Result<(), Fail> {
     for (line, asked) in ASKED {
@@ -179,6 +182,7 @@ fn sought(line: &Line) -> Option<(bool, bool)> {
     }
 }
 
+/// A `find` line is read, with a fragment that contains a blank.
 #[test]
 fn a_line_that_seeks_a_recording(rt: HostRuntime) -> Result<(), Fail> {
     let found = sought(&parse_line(rt.alloc(), b"find 2 1001 -7 a b")?);
@@ -246,6 +250,8 @@ fn longest(alloc: Global) -> Result<(bool, bool), Fail> {
     Ok((is_read, is_malformed(alloc, line.as_slice())))
 }
 
+/// Lines with a field missing, too many, malformed or out of range are refused, as are bytes that are not UTF-8 and lines
+/// of more than 262,144 bytes.
 #[test]
 fn malformed_lines(rt: HostRuntime) -> Result<(), Fail> {
     for line in MALFORMED.split('\n') {
@@ -356,6 +362,7 @@ fn check_merges(alloc: Global) -> Result<(), Fail> {
     check_printed(alloc, Reply::Bye, "bye\n")
 }
 
+/// Each reply without frames or descriptors is printed as docs/CONTROL.md has it.
 #[test]
 fn replies_of_one_word_and_numbers(rt: HostRuntime) -> Result<(), Fail> {
     check_recorders(rt.alloc())?;
@@ -425,6 +432,7 @@ fn two_frames(alloc: Global) -> Result<Items<PolledFrame>, Fail> {
     Ok(frames)
 }
 
+/// The frames of a poll are printed with their positions and bytes, and the last line gives the next position.
 #[test]
 fn frame_lines(rt: HostRuntime) -> Result<(), Fail> {
     let polled = Reply::Polled {
@@ -472,6 +480,7 @@ const REFUSALS: [(Refusal, &'static str); 23] = [
     (Refusal::NeedCompact, "error 23 NeedCompact\n"),
 ];
 
+/// Each refusal is printed with its number, its name and its details.
 #[test]
 fn refusal_lines(rt: HostRuntime) {
     for (refusal, text) in REFUSALS {

@@ -94,6 +94,7 @@ fn image(
     }
 }
 
+/// A server's measures are printed in the text format, with their types and labels.
 #[test]
 fn a_server_is_measured(rt: HostRuntime) -> Result<(), Fail> {
     let text = print_metrics(rt.alloc(), &measures(rt.alloc())?)?;

@@ -58,7 +58,10 @@ const DUE: [(u64, u64, u32, bool); 12] = [
 #[test]
 fn when_a_checkpoint_is_due(rt: HostRuntime) -> Result<(), Fail> {
     for (counted, active, limit, is_due) in DUE {
-        assert!(rt; is_checkpoint_due(counted, active, limit) == is_due, "{counted} {active} {limit}");
+        assert!(rt;
+            is_checkpoint_due(counted, active, limit) == is_due,
+            "{counted} {active} {limit}"
+        );
     }
     Ok(())
 }
@@ -202,7 +205,10 @@ fn each_event_with_a_checkpoint_behind_it(rt: HostRuntime) -> Result<(), Fail> {
     let disk = MemoryDisk::new(rt.alloc());
     let (out, _) = checkpointed(rt.alloc(), disk, script.as_str(), &mut Unobserved)?;
     let left = without_checkpointed(rt.alloc(), out.as_slice())?;
-    expect(left.as_str().as_bytes(), std::str::from_utf8(plain.as_slice())?)
+    expect(
+        left.as_str().as_bytes(),
+        std::str::from_utf8(plain.as_slice())?,
+    )
 }
 
 /// A disk whose other bank is not there.
@@ -230,7 +236,8 @@ fn checkpoints_that_are_refused(rt: HostRuntime) -> Result<(), Fail> {
         (of_epoch(rt.alloc(), u64::MAX - 1)?, "checkpointed"),
     ] {
         let told = format!(in rt.alloc();
-            "started 0 0; settled 64; {answer}; settled 128; positions 0 128 -1; verified 2")?;
+            "started 0 0; settled 64; {answer}; settled 128; positions 0 128 -1; verified 2"
+        )?;
         check_checkpointed(
             rt.alloc(),
             disk,

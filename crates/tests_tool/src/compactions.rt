@@ -1,4 +1,4 @@
-//! Archives that are compacted: docs/SCENARIOS.md.
+//! Archives that are compacted: docs/STORAGE.md, "Compaction".
 
 use super::disks::{recorded, with_short_history};
 use super::frames::FullWriter;
@@ -207,6 +207,7 @@ fn behind_the_command(alloc: Global, disk: MemoryDisk) -> Result<MemoryDisk, Fai
     Ok(disk)
 }
 
+/// `compact` prints `compacted`, stops the active recording, and keeps its frames.
 #[test]
 fn the_command_compacts(rt: HostRuntime) -> Result<(), Fail> {
     let disk = recorded(rt.alloc(), MemoryDisk::new(rt.alloc()))?;
@@ -225,6 +226,7 @@ fn ended(alloc: Global, disk: MemoryDisk) -> Option<Stop> {
     compact(alloc, disk, &mut FullWriter { room: 0 }).err()
 }
 
+/// `compact` ends early if its output takes nothing, or if the other bank is missing.
 #[test]
 fn the_command_ends_early(rt: HostRuntime) -> Result<(), Fail> {
     let disk = recorded(rt.alloc(), MemoryDisk::new(rt.alloc()))?;

@@ -1,4 +1,4 @@
-//! Archives whose catalogue is of version 1, and what becomes of them by a compaction: docs/SCENARIOS.md.
+//! Archives whose catalogue is of version 1, and what a compaction makes of them: docs/STORAGE.md, "Compaction".
 
 use super::compactions::{CHOICES, check_bank, check_stopped};
 use super::scenarios::check_on;

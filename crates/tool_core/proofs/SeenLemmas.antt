@@ -37,6 +37,7 @@ module _ {A B : Type 0} (view : A → B) (ways : Ways B) where
   line_is old lines.Reopen outcome new is = is
   line_is old lines.Compact outcome new is = is
   line_is old (lines.Merge line) outcome new is = (is.0, ap view is.1)
+  line_is old (lines.Follow fields) outcome new is = (is.0, ap state_seen is.1)
   line_is old lines.Quit outcome new is = (is.0, ap state_seen is.1)
 
   read_line_is : (old : ScriptState A) (line : Result Line Refusal) (outcome : Result Reply Refusal) (new : ScriptState A) → ReadLineIs Seen old line outcome new → ReadLineIs ways (state_seen old) line outcome (state_seen new)

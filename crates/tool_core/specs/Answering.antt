@@ -148,6 +148,7 @@ module _ {A : Type 0} (ways : Ways A) where
   LineIs s (lines.Event event) = OfArchive s (ways.call event)
   LineIs s (lines.Write session bytes) = OfArchive s (WritesBytes session bytes)
   LineIs s (lines.Block session bytes) = OfArchive s (Records session bytes)
+  LineIs s (lines.Follow fields) = Stays s (Err BadLine)
   LineIs s lines.Reopen = OfArchive s ways.reopen
   LineIs s lines.Compact = OfArchive s ways.compact
   LineIs s (lines.Merge line) = OfMerge s (λ merge. MergeEnds merge line)
