@@ -1,6 +1,6 @@
 -- Checkpoints that a script makes before its lines.
 use Rattle.std.proofs.Common.{◌≡◌, ◌∙◌, ap, refl, sym, subst, inl, inr, Bool, true, false, IsTrue}
-use Rattle.std.specs.Prelude.{MatchBool, Option, Result, Ok}
+use Rattle.std.specs.Prelude.{◌⊎◌, MatchBool, Option, Result, Ok}
 use Rattle.frame_core.specs.declared.refusal.Refusal.{Refusal}
 use Rattle.archive_model.specs.declared.reply.Reply.{Reply}
 use Rattle.merge_core.specs.Merge.{Merging}
