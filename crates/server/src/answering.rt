@@ -197,13 +197,36 @@ impl<'a, D: Disk, A: Naming, P: Place, R: Wait, T: Reporter> Controller<'a, D, A
         self.pass
     }
 
-    /// Notes where the archive stands after a call. A checkpoint comes first, if the server makes any and one is due.
-    fn follow(&mut self, alloc: Global, standing: &Option<Standing>)
+    /// Notes where the archive stands after a call that makes an entry, and after a device fault. A checkpoint comes first, if the
+    /// server makes any and one is due. What became of one that a client asked for is noted.
+    #[tactic(auto, using(crate::proofs::ClientLemmas::not_followed))]
+    fn after_call(
+        &mut self,
+        alloc: Global,
+        event: &Event,
+        outcome: &Result<Reply, Refusal>,
+        standing: &Option<Standing>,
+    )
         ensures { FollowsCall D.life A.opening self.old self.new }
     {
-        let Some(standing) = standing else {
+        if matches!(event, Event::Checkpoint) {
+            self.noted.note_asked(outcome, standing);
             return;
-        };
+        }
+        match standing {
+            Some(standing) => {
+                if may_be_last(event, outcome) {
+                    self.follow(alloc, standing);
+                }
+            }
+            None => {}
+        }
+    }
+
+    /// Notes where the archive stands after a call. A checkpoint comes first, if the server makes any and one is due.
+    fn follow(&mut self, alloc: Global, standing: &Standing)
+        ensures { FollowsCall D.life A.opening self.old self.new }
+    {
         if self.checkpoints {
             self.noted.keep_short(alloc, &mut self.pass, standing);
         } else {
@@ -389,11 +412,7 @@ impl<D: Disk, A: Naming, P: Place, R: Wait, T: Reporter> Answerer
     fn call(&mut self, alloc: Global, event: &Event) -> Result<Reply, Refusal> {
         let (outcome, standing) = self.noted.call(alloc, &mut self.pass, event);
         note_replay(&mut self.replays, event, &outcome);
-        match event {
-            Event::Checkpoint => self.noted.note_asked(&outcome, &standing),
-            event if may_be_last(event, &outcome) => self.follow(alloc, &standing),
-            _ => {}
-        }
+        self.after_call(alloc, event, &outcome, &standing);
         outcome
     }
 

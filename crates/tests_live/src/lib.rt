@@ -7,6 +7,8 @@ mod agents;
 #[cfg(test)]
 mod archives;
 #[cfg(test)]
+mod checkpoints;
+#[cfg(test)]
 mod client;
 #[cfg(test)]
 mod conversations;
