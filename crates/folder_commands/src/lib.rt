@@ -7,6 +7,7 @@ mod capture;
 mod commands;
 mod concluding;
 mod exit;
+mod folder_openings;
 mod hidden;
 mod looking;
 mod observers;

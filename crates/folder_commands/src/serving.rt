@@ -13,6 +13,7 @@ ghost use Rattle.folder_commands.specs.Serving.{AreOptions, HasBadOptions, HasBa
 
 use crate::commands::disk_of;
 use crate::exit::Exit;
+use crate::folder_openings::FolderOpenings;
 use crate::hidden::warns_of_hidden;
 use crate::open_folder::closed;
 use crate::outcome::{Left, Outcome};
@@ -25,9 +26,10 @@ use command_line::{ServeWords, UsageError};
 use disk_core::Disk;
 use flow_control::{INITIAL_WINDOW, LONGEST_WINDOW, SHORTEST_WINDOW};
 use frame_core::limits::{FRAME_ALIGNMENT, MAX_TERM_LENGTH, MIN_TERM_LENGTH};
-use server::{Reporter, SEGMENT_LENGTH, ServeOptions, Served, serve_with};
+use server::{Openings, Reporter, SEGMENT_LENGTH, ServeOptions, Served, serve_followed};
 use std::alloc::Global;
 use std::io::{self, Eprint};
+use std::marker::Brand;
 use std::net::{Ipv4Addr, Net, TcpListener, TcpStream, UdpSocket};
 use std::path::Path;
 use std::random::RandomSource;
@@ -70,7 +72,8 @@ pub(crate) fn serve<
     let disk = Watched::new(disk, ServeFaults::new(rt.alloc(), net));
     let metrics = metrics_of(rt, words);
     let reporter = ServeReporter::new(net, words.is_quiet, metrics);
-    let (disk, done) = serve_disk(net, rt.alloc(), ports, disk, &options, reporter);
+    let openings = FolderOpenings::<Brand>::new(rt, folder);
+    let (disk, done) = serve_disk(net, rt.alloc(), ports, disk, &openings, &options, reporter);
     Outcome::leaving(done, closed(disk))
 }
 
@@ -248,18 +251,22 @@ fn serve_disk<
     R: Threads + Wait + Clock + Sync,
     D: Disk + Drop + Send,
     T: Reporter + Drop + Send + Sync,
+    O: Openings + Sync,
 >(
     net: &R,
     alloc: Global,
     ports: Ports,
     disk: D,
+    openings: &O,
     options: &ServeOptions<'_>,
     reporter: T,
 ) -> (D, Result<(), Exit>)
     ensures { ServesOver options.now.is_strict (D.life disk) (D.life result.0) (ending_in result.1) }
 {
     let Ports { listener, socket } = ports;
-    match serve_with(net, alloc, listener, socket, disk, options, reporter) {
+    match serve_followed(
+        net, alloc, listener, socket, disk, openings, options, reporter,
+    ) {
         Ok(Served { disk, stop }) => match stop {
             None => (disk, Ok(())),
             Some(stop) => (disk, Err(Exit::reported(Ending::Stuck(stop)))),

@@ -3,4 +3,4 @@ pub mod Serving
 pub mod Answering
 -- Clients at a time with their passes, and where the line `images` is.
 pub mod Clients
-pub mod ImagesLine
+pub mod OwnLines

@@ -1,10 +1,10 @@
 //! Who answers the lines of connections over a shared archive. docs/SERVING.md, "Control lines".
 
-ghost use Rattle.std.specs.Prelude.{◌≡◌, [], IsErrOf, MatchBool};
+ghost use Rattle.std.specs.Prelude.{◌≡◌, ◌⊎◌, [], IsErrOf, MatchBool};
 ghost use Rattle.std.specs.List.{position};
 ghost use Rattle.frame_core.specs.declared.refusal.Refusal.TheVariants.{NoMemory};
 ghost use Rattle.archive_lock.specs.History.{EndsWithAnswer, IsNoted};
-ghost use Rattle.server.specs.Answering.{ClosesReplay, ClosesEach, EndsConnection, NotesOpened, NotesReplay, awaited_before, closed_replay, is_command, is_device_fault, is_replay, replays_left_by, left_open, makes_entry, may_be_last, opened_replay, settled_after, settled_before, shared_ways};
+ghost use Rattle.server.specs.Answering.{ClosesReplay, ClosesEach, EndsConnection, IsGuarded, NotesOpened, NotesReplay, awaited_before, closed_replay, is_command, is_device_fault, is_replay, replays_left_by, left_open, makes_entry, may_be_last, opened_replay, polled_replay, settled_after, settled_before, shared_ways};
 
 use crate::connections::{Connections, Server};
 use crate::place::Place;
@@ -45,6 +45,34 @@ impl<'a, D: Disk, A: Naming, R: Wait, T: Reporter> NotedArchive<'a, D, A, R, T> 
         } else {
             self.call_now(alloc, pass, event)
         }
+    }
+
+    /// Makes a call on a replay as `call`, unless it is one of a follower: a poll of that is `UnknownReplay` and no call, and
+    /// before that is closed its follower ends.
+    fn call_guarded(
+        &self,
+        alloc: Global,
+        pass: &mut Pass<Made>,
+        event: &Event,
+    ) -> Result<Reply, Refusal>
+        requires { pass.old.table ≡ A.table }
+        ensures answers { IsGuarded event.now pass.old result pass.new
+            ⊎ (IsNoted result → EndsWithAnswer D.life A.opening pass.old event.now result pass.new) }
+        ensures unnoted { IsErrOf result NoMemory → pass.new ≡ pass.old }
+        ensures pass { (pass.new.table ≡ pass.old.table) × (pass.new.number ≡ pass.old.number) }
+    {
+        if let Event::ReplayClose { replay } = event {
+            self.with.followers.end_follower(self.rt, *replay);
+        }
+        let Some(replay) = polled_replay(event) else {
+            return self.call(alloc, pass, event);
+        };
+        // A follower's replay is opened under the same lock: there is no moment at which it can be polled.
+        let places = self.with.followers.lock(self.rt);
+        if places.has(replay) {
+            return Err(Refusal::UnknownReplay);
+        }
+        self.call(alloc, pass, event)
     }
 
     /// Makes a call and notes it, before or after each other call by this function.
@@ -173,7 +201,9 @@ impl<'a, D: Disk, A: Naming, P: Place, R: Wait, T: Reporter> Controller<'a, D, A
     fn close(&mut self, alloc: Global, replay: &i64)
         ensures { ClosesReplay D.life A.opening replay.now self.old self.new }
     {
-        let _ = self.call(alloc, &Event::ReplayClose { replay: *replay });
+        let event = Event::ReplayClose { replay: *replay };
+        let outcome = self.noted.call(alloc, &mut self.pass, &event);
+        note_replay(&mut self.replays, &event, &outcome);
     }
 }
 
@@ -246,6 +276,23 @@ fn closed_replay(event: &Event, outcome: &Result<Reply, Refusal>) -> Option<i64>
 {
     match (event, outcome) {
         (Event::ReplayClose { replay }, Ok(_)) => Some(*replay),
+        _ => None,
+    }
+}
+
+/// The replay that a call polls.
+fn polled_replay(event: &Event) -> Option<i64>
+    ensures { result ≡ polled_replay event.now }
+{
+    match event {
+        Event::ReplayPoll { replay, max } => {
+            let _ = max;
+            Some(*replay)
+        }
+        Event::ReplayPollTo { replay, max, limit } => {
+            let _ = (max, limit);
+            Some(*replay)
+        }
         _ => None,
     }
 }
@@ -333,7 +380,7 @@ impl<D: Disk, A: Naming, P: Place, R: Wait, T: Reporter> Answerer
     }
 
     fn call(&mut self, alloc: Global, event: &Event) -> Result<Reply, Refusal> {
-        let outcome = self.noted.call(alloc, &mut self.pass, event);
+        let outcome = self.noted.call_guarded(alloc, &mut self.pass, event);
         note_replay(&mut self.replays, event, &outcome);
         outcome
     }

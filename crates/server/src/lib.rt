@@ -5,19 +5,25 @@ mod answering;
 mod client;
 mod clients;
 mod connections;
+mod follower_connection;
+mod followers;
+mod following;
 mod line_reader;
 mod listener;
+mod openings;
 mod options;
 mod place;
+mod pushing;
 mod script_reader;
 mod served;
 mod serving;
 mod unopened;
 
+pub use openings::{NoOpenings, Openings};
 pub use options::{IDLE_SECONDS, SEGMENT_LENGTH, SETTLE_EVERY, ServeOptions};
 pub use served::{Served, Stuck};
 pub use server_state::{
     ArchiveNews, ClientNews, Counted, Happening, ImageCounted, ImageNews, LineReporter, Reporter,
     SessionNews, Unreported,
 };
-pub use serving::{serve_on, serve_with};
+pub use serving::{serve_followed, serve_on, serve_with};

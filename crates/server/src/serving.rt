@@ -10,7 +10,9 @@ ghost use Rattle.server.specs.Serving.{EndsHistory, EndsOrLacks, EndsUpTo, IsSer
 
 use crate::clients::{serve_clients, serve_unopened};
 use crate::connections::{ClientOptions, Connections};
+use crate::followers::Followers;
 use crate::listener::SharedListener;
+use crate::openings::{NoOpenings, Openings};
 use crate::options::ServeOptions;
 use crate::place::Places;
 use crate::served::{Served, stuck_by, unopened_stop};
@@ -40,7 +42,7 @@ const READ_TIMEOUT: u64 = 100;
 
 /// What all of a server works with: where datagrams come to, and what its threads share.
 #[derive(Drop)]
-struct Serving<'a, R, T> {
+struct Serving<'a, R, T, O> {
     rt: &'a R,
     alloc: Global,
     socket: &'a UdpSocket,
@@ -56,6 +58,8 @@ struct Serving<'a, R, T> {
     shared: &'a Shared<T>,
     /// What the threads that serve clients share.
     lines: &'a Connections<T>,
+    /// How the disk is opened again for followers.
+    openings: &'a O,
 }
 
 /// What threads work with, beside what they share.
@@ -124,7 +128,7 @@ pub fn serve_on<R: Threads + Wait + Clock + Sync, D: Disk + Drop + Send>(
 ///
 /// `Memory` if the opening finds none, or a thread can't be made; `Read` if the listener or the socket fails. A reply that
 /// finds no memory ends its connection. Costs memory for 64 images, each of which holds 1,048,576 bytes of its stream at
-/// most, for 32 blocks, and for 131,072 bytes of each client's lines and replies.
+/// most, for 32 blocks, and for 131,072 bytes of each client's lines and replies. No connection follows.
 pub fn serve_with<
     R: Threads + Wait + Clock + Sync,
     D: Disk + Drop + Send,
@@ -144,23 +148,64 @@ pub fn serve_with<
     ensures early { IfErr result (λ fault.
         IsServedUpTo (D.life disk) (D.life (disk_of fault)) (early_end_of fault)) }
 {
+    serve_followed(
+        rt,
+        alloc,
+        listener,
+        socket,
+        disk,
+        &NoOpenings,
+        options,
+        reporter,
+    )
+}
+
+/// Serves the archive of a disk as `serve_with`, and connections that follow a recording, if the disk can be opened again and
+/// more than one client is served or images are listed: 60 at a time at most, each by a thread of its own, which reads by an
+/// opening of its own. docs/SERVING.md, "Followers". Costs a megabyte more for each.
+pub fn serve_followed<
+    R: Threads + Wait + Clock + Sync,
+    D: Disk + Drop + Send,
+    T: Reporter + Drop + Send + Sync,
+    O: Openings + Sync,
+>(
+    rt: &R,
+    alloc: Global,
+    listener: TcpListener,
+    socket: UdpSocket,
+    disk: D,
+    openings: &O,
+    options: &ServeOptions<'_>,
+    reporter: T,
+) -> Result<Served<D>, ScriptFault<D>>
+    ensures served { IfOk result (λ back. IsServed (D.life disk) (D.life back.disk)) }
+    ensures stop { IfOk result (λ back.
+        IsServedAs options.now.is_strict (D.life disk) (D.life back.disk) back.stop) }
+    ensures early { IfErr result (λ fault.
+        IsServedUpTo (D.life disk) (D.life (disk_of fault)) (early_end_of fault)) }
+{
     let Ok(shared) = Shared::new(alloc, shared_by(options), reporter) else {
         return Err(ScriptFault::Memory(disk));
     };
     let (Ok(tools), Ok(seat_room)) = (Tools::new(alloc, options), SeatRoom::new(alloc)) else {
         return Err(ScriptFault::Memory(disk));
     };
+    let places = Places::of(options.clients, may_follow(options, openings));
+    let Ok(followers) = Followers::new(alloc, places.followers) else {
+        return Err(ScriptFault::Memory(disk));
+    };
     let (archive, beginning) = match ScriptArchive::of_disk(alloc, disk) {
         Ok(found) => found,
         Err(disk) => return Err(ScriptFault::Memory(disk)),
     };
-    let places = Places::of(options.clients);
     let lines = Connections {
         alloc,
         shared,
         socket,
         listener: SharedListener::new(rt, listener, &places),
         options: ClientOptions::of(options, &places),
+        places,
+        followers,
     };
     let serving = Serving {
         rt,
@@ -173,11 +218,18 @@ pub fn serve_with<
         is_strict: options.is_strict,
         shared: &lines.shared,
         lines: &lines,
+        openings,
     };
     begin(&serving, beginning);
     let (served, end) = serve_archive(&serving, tools, seat_room, archive, beginning);
     lines.shared.report_end();
     handed_back(served, end)
+}
+
+/// Whether connections may follow: the disk can be opened again, and more than one client is served or images are listed.
+fn may_follow<O: Openings>(options: &ServeOptions<'_>, openings: &O) -> bool {
+    let serves_several = options.clients.unwrap_or(1) > 1 || options.window.is_some();
+    serves_several && openings.can_open()
 }
 
 /// What the threads of a server know of its options.
@@ -194,8 +246,9 @@ fn serve_archive<
     R: Threads + Wait + Clock + Sync,
     D: Disk + Drop + Send,
     T: Reporter + Drop + Send + Sync,
+    O: Openings + Sync,
 >(
-    with: &Serving<'_, R, T>,
+    with: &Serving<'_, R, T, O>,
     tools: Tools,
     seat_room: SeatRoom,
     archive: ScriptArchive<D>,
@@ -230,7 +283,7 @@ fn handed_back<D>(served: Served<D>, end: Result<(), EarlyEnd>) -> Result<Served
 }
 
 /// Reports where the server is, and how its archive began.
-fn begin<R, T: Reporter>(with: &Serving<'_, R, T>, beginning: Beginning) {
+fn begin<R, T: Reporter, O>(with: &Serving<'_, R, T, O>, beginning: Beginning) {
     let ends = (with.lines.listener.address(), with.socket.local_addr());
     if let (Ok(control), Ok(receive)) = ends {
         with.shared.report(&Happening::Bound { control, receive });
@@ -244,8 +297,9 @@ fn serve_open<
     R: Threads + Wait + Clock + Sync,
     D: Disk + Drop + Send,
     T: Reporter + Drop + Send + Sync,
+    O: Openings + Sync,
 >(
-    with: &Serving<'_, R, T>,
+    with: &Serving<'_, R, T, O>,
     tools: Tools,
     seat_room: SeatRoom,
     engine: Engine<D>,
@@ -256,7 +310,7 @@ fn serve_open<
     let Ok(opened) = Opened::new(with.alloc, false) else {
         return lacking(engine);
     };
-    serve_named::<D, Brand, R, T>(with, tools, seat_room, opened, engine)
+    serve_named::<D, Brand, R, T, O>(with, tools, seat_room, opened, engine)
 }
 
 /// Serves an archive that has a pass for each seat and for each client.
@@ -265,22 +319,23 @@ fn serve_named<
     A: Naming + Send + Sync,
     R: Threads + Wait + Clock + Sync,
     T: Reporter + Drop + Send + Sync,
+    O: Openings + Sync,
 >(
-    with: &Serving<'_, R, T>,
+    with: &Serving<'_, R, T, O>,
     tools: Tools,
     seat_room: SeatRoom,
     opened: Opened<Made>,
     engine: Engine<D>,
 ) -> (Served<D>, Result<(), EarlyEnd>)
     requires named { opened.table ≡ A.table }
-    requires counts { A.passes ≡ 64 + with.now.places.count }
+    requires counts { A.passes ≡ 64 + with.now.places.count + with.now.places.followers }
     requires stores { opened.keeps ≡ A.keeps }
     requires opens { engine_seen D.life (view_of engine []) ≡ A.opening }
     ensures { EndsOrLacks (D.life engine.archive.storage.disk) A.opening with.now.is_strict
         (D.life result.0.disk) result.0.stop result.1 }
 {
     let places = with.places;
-    let count = FED_SESSIONS + places.count;
+    let count = FED_SESSIONS + places.count + places.followers;
     let Ok(room) = Vec::with_capacity(with.alloc, count) else {
         return lacking(engine);
     };
@@ -316,8 +371,9 @@ fn serve_shared<
     A: Naming + Send + Sync,
     R: Threads + Wait + Clock + Sync,
     T: Reporter + Drop + Send + Sync,
+    O: Openings + Sync,
 >(
-    with: &Serving<'_, R, T>,
+    with: &Serving<'_, R, T, O>,
     tools: Tools,
     archive: &SharedArchive<D, A>,
     clients: Vec<Pass<Made>>,
@@ -338,6 +394,7 @@ fn serve_shared<
         socket,
         shared,
         lines,
+        openings,
         ..
     } = with;
     thread::scope(
@@ -365,7 +422,7 @@ fn serve_shared<
                     Err(EarlyEnd::Memory),
                 );
             };
-            let clients = serve_clients(*rt, lines, archive, clients);
+            let clients = serve_clients(*rt, lines, *openings, archive, clients);
             shared.end(socket);
             let is_whole = receiver.join(*rt);
             (
@@ -377,8 +434,12 @@ fn serve_shared<
 }
 
 /// Serves lines alone, and receives datagrams that no session has.
-fn serve_closed<R: Threads + Wait + Clock + Sync, T: Reporter + Drop + Send + Sync>(
-    with: &Serving<'_, R, T>,
+fn serve_closed<
+    R: Threads + Wait + Clock + Sync,
+    T: Reporter + Drop + Send + Sync,
+    O: Openings + Sync,
+>(
+    with: &Serving<'_, R, T, O>,
     tools: Tools,
 ) -> Result<(), EarlyEnd> {
     let Tools {
@@ -387,8 +448,9 @@ fn serve_closed<R: Threads + Wait + Clock + Sync, T: Reporter + Drop + Send + Sy
         buffer,
         batch: _,
     } = tools;
-    // No thread records: nobody waits for one.
+    // No thread records, and none sends frames: nobody waits for one.
     with.shared.queue.leave(with.rt);
+    with.lines.followers.end(with.rt);
     thread::scope(thread::scope_env(), with.rt, |scope| {
         let receiver = scope.spawn(move || receive(with, images, senders, buffer));
         let Ok(receiver) = receiver else {
@@ -404,8 +466,8 @@ fn serve_closed<R: Threads + Wait + Clock + Sync, T: Reporter + Drop + Send + Sy
 }
 
 /// Records until no more blocks come. The seats.
-fn record<D: Disk, A: Naming, R: Wait + Clock, T: Reporter>(
-    with: &Serving<'_, R, T>,
+fn record<D: Disk, A: Naming, R: Wait + Clock, T: Reporter, O>(
+    with: &Serving<'_, R, T, O>,
     archive: &SharedArchive<D, A>,
     mut seats: Seats<A>,
     mut batch: VecDeque<FedBlock>,
@@ -423,8 +485,8 @@ fn record<D: Disk, A: Naming, R: Wait + Clock, T: Reporter>(
 }
 
 /// Receives until the server ends, and ends it if no more can be received. Whether more could be.
-fn receive<R: Wait + Clock, T: Reporter>(
-    with: &Serving<'_, R, T>,
+fn receive<R: Wait + Clock, T: Reporter, O>(
+    with: &Serving<'_, R, T, O>,
     images: Images,
     senders: Option<Senders>,
     mut buffer: Vec<u8>,

@@ -37,6 +37,7 @@ impl Happening<'_> {
             Happening::Archive(news) => news.is_fault(),
             Happening::Image(news) => news.is_fault(),
             Happening::Session(news) => news.is_fault(),
+            Happening::Client(news) => news.is_fault(),
             _ => false,
         }
     }

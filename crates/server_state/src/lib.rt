@@ -18,6 +18,7 @@ mod queue;
 mod refusal_text;
 mod reporter;
 mod session_news;
+mod settle_notice;
 mod shared;
 mod stopwatch;
 
@@ -32,5 +33,6 @@ pub use pairing::{FedSession, ImageKey};
 pub use queue::{FedBlock, Queue, Taken};
 pub use reporter::{LineReporter, Reporter, Unreported};
 pub use session_news::SessionNews;
+pub use settle_notice::SettleNotice;
 pub use shared::{ReceivedMeasures, Shared, SharedOptions, WaitingImage};
 pub use stopwatch::Stopwatch;

@@ -1,0 +1,33 @@
+//! How a server opens its disk again for those who read beside the archive. docs/ARCHITECTURE.md, "Serving".
+
+use disk_core::{Disk, MemoryDisk};
+use std::alloc::Global;
+
+/// Opens the disk of a server again, each time for one who only reads. What a read by it gives is of a disk that a crash at that
+/// moment might have left (docs/STORAGE.md, "Folders").
+pub trait Openings {
+    /// Another opening.
+    type Opening: Disk + Drop;
+
+    /// Whether the disk can be opened again. If not, no connection follows.
+    fn can_open(&self) -> bool;
+
+    /// Opens the disk again. None if that fails.
+    fn open_again(&self, alloc: Global) -> Option<Self::Opening>;
+}
+
+/// A disk that can't be opened again.
+#[derive(Clone, Copy, Debug, Drop)]
+pub struct NoOpenings;
+
+impl Openings for NoOpenings {
+    type Opening = MemoryDisk;
+
+    fn can_open(&self) -> bool {
+        false
+    }
+
+    fn open_again(&self, _alloc: Global) -> Option<MemoryDisk> {
+        None
+    }
+}
