@@ -12,7 +12,7 @@ use archive_model::Descriptor;
 use call_history::Pass;
 use control_lines::FollowFields;
 use disk_core::Disk;
-use frame_core::{Publication, Refusal};
+use frame_core::Refusal;
 use server_state::{ClientNews, Happening, Reporter};
 use settled_replays::{
     HeldReplay, SentFrames, SettledReplayer, Unbegun, Unopened, described, open_in_term,
@@ -49,11 +49,12 @@ pub(crate) fn follow_by<D: Disk, A: Naming, R: Wait + Clock, T: Reporter, O: Ope
     ensures { IsBack pass result }
 {
     let mut pass = pass;
-    let Following {
-        rt, with, place, ..
-    } = following;
-    for _ in rt.forever() {
-        let Some(fields) = with.followers.next(*rt, *place) else {
+    for _ in following.rt.forever() {
+        let next = following
+            .with
+            .followers
+            .next(following.rt, following.place);
+        let Some(fields) = next else {
             return pass;
         };
         pass = follow(following, openings, pass, &fields);
@@ -144,6 +145,19 @@ fn finish<D: Disk, A: Naming, E: Disk, R: Wait, T: Reporter>(
     requires { replayer.held.pass.table ≡ A.table }
     ensures { IsBack replayer.held.pass result }
 {
+    let pass = freed(following, replayer);
+    following.with.followers.leave(following.rt, following.place);
+    pass
+}
+
+/// Closes the archive's replay, or leaves it to the client that has asked for that. Its number is any client's from then on.
+fn freed<D: Disk, A: Naming, E: Disk, R: Wait, T: Reporter>(
+    following: &Following<'_, D, A, R, T>,
+    replayer: SettledReplayer<E>,
+) -> Pass<Made>
+    requires { replayer.held.pass.table ≡ A.table }
+    ensures { IsBack replayer.held.pass result }
+{
     let Following {
         rt,
         alloc,
@@ -152,15 +166,12 @@ fn finish<D: Disk, A: Naming, E: Disk, R: Wait, T: Reporter>(
         place,
     } = following;
     let mut places = with.followers.lock(*rt);
-    let pass = if places.is_ended(*place) {
+    places.set_replay(*place, None);
+    if places.is_ended(*place) {
         replayer.release()
     } else {
         replayer.close(*rt, *alloc, *archive)
-    };
-    places.set_replay(*place, None);
-    drop(places);
-    with.followers.leave(*rt, *place);
-    pass
+    }
 }
 
 /// Opens what a client asks for, as a replay of the archive whose frames are read beside its lock; or why not, and the pass.
