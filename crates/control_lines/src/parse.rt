@@ -62,6 +62,7 @@ fn archive_line(alloc: Global, word: &str, words: &mut Words) -> Result<Line, Re
             length: words.long()?,
         }),
         "sweep" => Line::Event(Event::Sweep),
+        "checkpoint" => Line::Event(Event::Checkpoint),
         "verify" => Line::Event(Event::Verify {
             recording: words.long()?,
         }),

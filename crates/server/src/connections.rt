@@ -1,10 +1,13 @@
 //! Connections, one after another, and their lines. docs/SERVING.md, "Control lines".
 
-ghost use Rattle.std.specs.Prelude.{◌≡◌, ◌<◌, ◌↔◌, IfErr, IsSome, IsTrue, OnOk};
-ghost use Rattle.tool_core.specs.Answering.{AnswersFirstLines, AnswersLines, EndsEarly};
+ghost use Rattle.std.specs.Prelude.{◌≡◌, ◌<◌, ◌↔◌, Err, IfErr, IsSome, IsTrue, OnOk};
+ghost use Rattle.std.specs.Io.KnownBytes.{Appends};
+ghost use Rattle.frame_core.specs.declared.refusal.Refusal.TheVariants.{BadLine};
+ghost use Rattle.tool_core.specs.Answering.{AnswersFirstLines, AnswersLines, EndsEarly, outcome_text};
 ghost use Rattle.tool_core.specs.Transcript.{WritesText};
 
 use crate::client::{Client, ClientReader, ClientWriter, is_timed};
+use crate::first_bytes::FirstBytes;
 use crate::followers::{Claim, Followers};
 use crate::line_reader::LineReader;
 use crate::listener::SharedListener;
@@ -21,7 +24,7 @@ use std::net::{TcpStream, UdpSocket};
 use std::rt::Clock;
 use std::sync::Wait;
 use std::time::Duration;
-use tool_core::{Answerer, EarlyEnd, Observer, ScriptState, answer_lines};
+use tool_core::{Answerer, EarlyEnd, Observer, ScriptState, answer_lines, write_outcome};
 
 /// Bytes of replies that are written at once at most, but for longer texts.
 const WRITTEN_AT_ONCE: usize = 65_536;
@@ -51,6 +54,8 @@ pub(crate) struct ClientOptions {
     pub closes_replays: bool,
     /// Whether one client is served at a time. Its merge goes on in the next connection.
     pub is_single: bool,
+    /// Whether the line `checkpoint` is answered.
+    pub offers_checkpoints: bool,
 }
 
 impl ClientOptions {
@@ -60,6 +65,7 @@ impl ClientOptions {
         ensures single { IsTrue result.is_single ↔ (places.now.count ≡ 1) }
         ensures images { IsTrue result.lists_images ↔ IsSome options.now.window }
         ensures follows { IsTrue result.follows ↔ (0 < places.now.followers) }
+        ensures checkpoints { result.offers_checkpoints ≡ options.now.makes_checkpoints }
     {
         ClientOptions {
             idle: Duration::from_secs(options.idle_seconds),
@@ -67,6 +73,7 @@ impl ClientOptions {
             follows: places.followers > 0,
             closes_replays: options.clients.is_some(),
             is_single: places.count == 1,
+            offers_checkpoints: options.makes_checkpoints,
         }
     }
 }
@@ -183,6 +190,7 @@ fn serve_stream<R: Wait + Clock, T: Reporter, S: Server + Drop>(
 }
 
 /// Answers the lines of a client until one quits or follows, the client ends or fails, or is served no further. How they ended.
+/// If its first bytes are another protocol's, that is answered, and nothing more of it is read.
 fn serve_client<R: Wait + Clock, T: Reporter, S: Answerer>(
     rt: &R,
     with: &Connections<T>,
@@ -193,10 +201,18 @@ fn serve_client<R: Wait + Clock, T: Reporter, S: Answerer>(
     let Ok(mut writer) = BufWriter::with_capacity(with.alloc, WRITTEN_AT_ONCE, writer) else {
         return (state, ConnectionEnd::Ended);
     };
-    if with.options.lists_images || with.options.follows {
-        return serve_scripts(rt, with, client, &mut writer, state);
+    let mut reader = FirstBytes::new(ClientReader(client));
+    match reader.are_foreign() {
+        Ok(false) => {}
+        Ok(true) => {
+            let _ = refuse(with.alloc, &mut writer).is_ok() && writer.flush().is_ok();
+            return (state, ConnectionEnd::Ended);
+        }
+        Err(_) => return (state, ConnectionEnd::Ended),
     }
-    let reader = ClientReader(client);
+    if with.options.lists_images || with.options.follows {
+        return serve_scripts(rt, with, client, reader, &mut writer, state);
+    }
     let (state, _, has_quit) = answer_script(
         with.alloc,
         client,
@@ -210,10 +226,11 @@ fn serve_client<R: Wait + Clock, T: Reporter, S: Answerer>(
 
 /// Answers the lines of a client as `serve_client`, a line `images` between them by the images, and a line `follow` by a
 /// replay whose frames the client is sent.
-fn serve_scripts<R: Wait + Clock, T: Reporter, W: Write, S: Answerer>(
+fn serve_scripts<R: Wait + Clock, T: Reporter, I: Read + Drop, W: Write, S: Answerer>(
     rt: &R,
     with: &Connections<T>,
     client: &Client<'_, R, T>,
+    reader: I,
     writer: &mut W,
     state: ScriptState<S>,
 ) -> (ScriptState<S>, ConnectionEnd) {
@@ -222,7 +239,7 @@ fn serve_scripts<R: Wait + Clock, T: Reporter, W: Write, S: Answerer>(
         images: with.options.lists_images,
         follow: with.options.follows,
     };
-    let Ok(mut reader) = ScriptReader::new(alloc, ClientReader(client), taken) else {
+    let Ok(mut reader) = ScriptReader::new(alloc, reader, taken) else {
         return (state, ConnectionEnd::Ended);
     };
     let mut state = state;
@@ -333,6 +350,13 @@ fn answer_script<R: Wait + Clock, T: Reporter, I: Read + Drop, W: Write, S: Answ
     (state, outcome.is_ok(), has_quit)
 }
 
+/// Writes the answer to a connection of another protocol.
+fn refuse<W: Write>(alloc: Global, writer: &mut W) -> Result<(), EarlyEnd>
+    ensures { OnOk result (Appends (W.contents writer.old) (W.contents writer.new) (outcome_text (Err BadLine))) }
+{
+    write_outcome(alloc, &Err(Refusal::BadLine), writer)
+}
+
 /// Writes the answer to the line `images`. Whether it went out.
 fn put_images<R: Wait + Clock, T: Reporter, W: Write>(
     alloc: Global,
@@ -353,8 +377,8 @@ fn answer_client<R: Read + Drop, W: Write, S: Answerer>(
     state: ScriptState<S>,
 ) -> (ScriptState<S>, Result<(), EarlyEnd>, bool)
     ensures whole { OnOk result.1 (WritesText (R.remaining reader) (W.contents writer.old) (W.contents writer.new)
-        (AnswersLines S.ways state result.0)) }
-    ensures early { IfErr result.1 (λ end. EndsEarly end (AnswersFirstLines S.ways state result.0)
+        (AnswersLines S.ways S.checkpoints state result.0)) }
+    ensures early { IfErr result.1 (λ end. EndsEarly end (AnswersFirstLines S.ways S.checkpoints state result.0)
         (R.remaining reader) (W.contents writer.old) (W.contents writer.new)) }
 {
     let mut observer = QuitObserver { has_quit: false };

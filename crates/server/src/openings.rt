@@ -1,6 +1,7 @@
 //! How a server opens its disk again for those who read beside the archive. docs/ARCHITECTURE.md, "Serving".
 
 use disk_core::{Disk, MemoryDisk};
+use server_recorder::Unflushed;
 use std::alloc::Global;
 
 /// Opens the disk of a server again, each time for one who only reads. What a read by it gives is of a disk that a crash at that
@@ -16,11 +17,8 @@ pub trait Openings {
     fn open_again(&self, alloc: Global) -> Option<Self::Opening>;
 }
 
-/// A disk that can't be opened again.
-#[derive(Clone, Copy, Debug, Drop)]
-pub struct NoOpenings;
-
-impl Openings for NoOpenings {
+/// What flushes nothing opens nothing either: a disk in memory can't be opened again.
+impl Openings for Unflushed {
     type Opening = MemoryDisk;
 
     fn can_open(&self) -> bool {

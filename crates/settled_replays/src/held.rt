@@ -234,7 +234,9 @@ impl HeldReplay {
         ensures pass { (result.table ≡ self.pass.table) × (result.number ≡ self.pass.number) }
     {
         let HeldReplay {
-            mut pass, number, ..
+            mut pass,
+            number,
+            ..
         } = self;
         close(rt, alloc, archive, &mut pass, number);
         pass

@@ -121,12 +121,7 @@ impl<E: Disk> SettledReplayer<E> {
             return Err(Unbegun { held, refusal });
         }
         match begun_at(alloc, &held, disk, descriptor, position, length) {
-            Ok(begun) => Ok(SettledReplayer::new(
-                held,
-                begun.disk,
-                begun.pages,
-                begun.cursor,
-            )),
+            Ok(begun) => Ok(SettledReplayer::new(held, begun.disk, begun.pages, begun.cursor)),
             Err(refusal) => Err(Unbegun { held, refusal }),
         }
     }

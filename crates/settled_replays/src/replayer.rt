@@ -38,12 +38,7 @@ pub struct SettledReplayer<E: Disk> {
 impl<E: Disk> SettledReplayer<E> {
     /// A reader of a replay that is open, by a disk that is only read, from where a cursor is: in the same recording, and where
     /// the replay was opened or behind that. No page is kept yet. Does not allocate.
-    pub fn new(
-        held: HeldReplay,
-        disk: E,
-        pages: PageCache,
-        cursor: Cursor,
-    ) -> SettledReplayer<E>
+    pub fn new(held: HeldReplay, disk: E, pages: PageCache, cursor: Cursor) -> SettledReplayer<E>
         requires recording { held.recording ≡ cursor.known.descriptor.recording }
         requires protected { held.from ≤ℤ cursor.replay.next }
         requires pages { kept pages ≡ [] }

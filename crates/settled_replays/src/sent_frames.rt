@@ -90,11 +90,7 @@ fn append(out: &mut Vec<u8>, header: &[u8], frame: &FrameRef<'_>) -> Result<(), 
 }
 
 /// Appends the header of a frame, its payload, and zeros up to its aligned length.
-fn append_message(
-    out: &mut Vec<u8>,
-    header: &[u8],
-    frame: &FrameRef<'_>,
-) -> Result<(), AllocError>
+fn append_message(out: &mut Vec<u8>, header: &[u8], frame: &FrameRef<'_>) -> Result<(), AllocError>
     requires { header.now ≡ header_of (frame_of frame.now) }
     ensures ok { OnOk result (out.new.items ≡ out.old.items ++ (encoded (frame_of frame.now)
         ++ replicate (aligned_length (frame_of frame.now) - length (encoded (frame_of frame.now))) 0)) }

@@ -3,10 +3,10 @@
 use crate::client::{Client, Ports, connected};
 use crate::serving::{bound, options, quits, served};
 use crate::vectors::{HELLO_AT_0, HELLO_AT_64};
-use disk_core::MemoryDisk;
-use server::{Openings, SETTLE_EVERY, Unreported, serve_followed};
+use disk_core::{FileId, MemoryDisk};
+use server::{Flusher, Openings, SETTLE_EVERY, Unreported, serve_flushing};
 use std::alloc::Global;
-use std::io::{Read, Write};
+use std::io::{self, Read, Write};
 use std::net::{Net, TcpListener, TcpStream};
 use std::rt::Clock;
 use std::sync::Wait;
@@ -33,6 +33,21 @@ impl Openings for Copies {
 
     fn open_again(&self, _alloc: Global) -> Option<MemoryDisk> {
         self.0.crash(&[255]).ok()
+    }
+}
+
+impl Flusher for Copies {
+    fn width(&self) -> usize {
+        0
+    }
+
+    fn flush(&self, file: FileId) -> io::Result<()> {
+        let _ = file;
+        Ok(())
+    }
+
+    fn failed(&self, file: FileId, error: io::Error) {
+        let _ = (file, error);
     }
 }
 
@@ -98,8 +113,8 @@ fn is_right<R: Threads + Wait + Clock + Net<Listener = TcpListener, Stream = Tcp
     let (has_ended, is_right) = thread::join(
         rt,
         move || {
-            serve_followed(
-                rt, alloc, listener, socket, disk, copies, &options, Unreported,
+            serve_flushing(
+                rt, alloc, listener, socket, disk, &options, Unreported, copies,
             )
             .is_ok()
         },
