@@ -1,7 +1,10 @@
 mod BytesLemmas
 mod CopyLemmas
 mod DatagramLemmas
+mod EachLemmas
 mod HoldLemmas
+mod JoinLemmas
+mod KeepingLemmas
 mod MadeLemmas
 mod MeetingLemmas
 mod OrderLemmas
@@ -9,3 +12,4 @@ mod PositionLemmas
 mod ReachLemmas
 mod ReadLemmas
 mod ShortLemmas
+mod TermLemmas

@@ -7,3 +7,4 @@ pub mod Copies
 pub mod Runs
 pub mod Meeting
 pub mod Order
+pub mod Keeping
