@@ -1,3 +1,4 @@
+mod BoundedLemmas
 mod BytesLemmas
 mod CopyLemmas
 mod DatagramLemmas
@@ -8,8 +9,10 @@ mod KeepingLemmas
 mod MadeLemmas
 mod MeetingLemmas
 mod OrderLemmas
+mod OrderedLemmas
 mod PositionLemmas
 mod ReachLemmas
 mod ReadLemmas
 mod ShortLemmas
+mod StockLemmas
 mod TermLemmas

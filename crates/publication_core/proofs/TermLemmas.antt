@@ -50,11 +50,11 @@ unfolding is_inside
 inside g f is = grind (arith, nat_tests, is)
 
 -- what a frame that may join is
-record MayJoin (g : Geometry) (f : Frame) (p : ℕ) : Type 0 where
-  inside : is_inside g f ≡ true
-  at : position_of g f.term_id f.term_offset ≡ Some p
+pub record MayJoin (g : Geometry) (f : Frame) (p : ℕ) : Type 0 where
+  pub inside : is_inside g f ≡ true
+  pub at : position_of g f.term_id f.term_offset ≡ Some p
 
-may_join : (g : Geometry) (publication : Publication) (f : Frame) (p : ℕ) → joining_position g publication f ≡ Some p → MayJoin g f p
+pub may_join : (g : Geometry) (publication : Publication) (f : Frame) (p : ℕ) → joining_position g publication f ≡ Some p → MayJoin g f p
 unfolding joining_position
 may_join g publication f p lies = record { inside = grind (arith, lies); at = grind (arith, lies) }
 

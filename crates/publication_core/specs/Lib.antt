@@ -8,3 +8,4 @@ pub mod Runs
 pub mod Meeting
 pub mod Order
 pub mod Keeping
+pub mod Bounded

@@ -9,7 +9,8 @@ ghost use Rattle.frame_core.specs.declared.setup.Setup.{Setup};
 ghost use Rattle.frame_core.specs.Datagram.{IsDatagram};
 ghost use Rattle.frame_core.specs.FrameEncoding.{IsAligned};
 ghost use Rattle.frame_core.specs.Limits.{is_mtu, is_term_length};
-ghost use Rattle.image_core.specs.Received.{IsBegun, IsChain, begun, received_all};
+ghost use Rattle.image_core.specs.Received.{IsBegun, IsChain, StandsFor, begun, received_all};
+ghost use Rattle.publication_core.specs.Bounded.{BoundedTurn, HasRoomForAll, MeetBounded, calls_of, image_after, offered_by};
 ghost use Rattle.publication_core.specs.declared.datagram.Datagram.{Datagram};
 ghost use Rattle.publication_core.specs.Keeping.{EndsInItsTerm, EndsPast};
 ghost use Rattle.publication_core.specs.Runs.{AreMadeOf, AreOfStream, AreShort, Call, IsMadeOf, IsWithinReach, after_calls, after_sending};
@@ -152,4 +153,32 @@ pub fn a_setup_frame_begins_an_image_at_the_sender_position()
         → IsChain from (laid_by calls) to
         → let position = (after_calls calls (new_sending g publication from)).flow.position in
         IsSetupOf g publication position setup → IsBegun setup (begun g publication position) }
+{}
+
+/// A sender into which the frames of a stream are laid, one after another, and a bounded image that joined where it
+/// begins. Between them datagrams are lost, repeated, reordered and delayed, and blocks are taken of the image as one
+/// likes. Status messages name no position past what was taken of it. Then the image has room for whatever comes:
+/// nothing is lost for want of stock or window. It gets what an image would of which nothing was taken, and that
+/// makes a copy.
+pub fn what_a_sender_sends_has_room_in_a_bounded_image()
+    ensures room { (g : Geometry) (publication : Publication) (from to last : ℕ)
+        (stream : List (ℕ × Frame)) (ts : List BoundedTurn)
+        → IsRecordedStream g publication from stream to → is_mtu g.mtu ≡ true
+        → IsChain from (laid_by (calls_of ts)) last
+        → MeetBounded stream ts [] (new_sending g publication from) (begun g publication from)
+        → HasRoomForAll stream ts (begun g publication from) }
+    ensures same { (g : Geometry) (publication : Publication) (from to last : ℕ)
+        (stream : List (ℕ × Frame)) (ts : List BoundedTurn)
+        → IsRecordedStream g publication from stream to → is_mtu g.mtu ≡ true
+        → IsChain from (laid_by (calls_of ts)) last
+        → MeetBounded stream ts [] (new_sending g publication from) (begun g publication from)
+        → StandsFor (received_all (begun g publication from) (offered_by ts))
+        (image_after ts (begun g publication from)) }
+    ensures copy { (g : Geometry) (publication : Publication) (from to last front : ℕ)
+        (stream firsts : List (ℕ × Frame)) (ts : List BoundedTurn)
+        → IsRecordedStream g publication from stream to → is_mtu g.mtu ≡ true
+        → IsChain from (laid_by (calls_of ts)) last
+        → MeetBounded stream ts [] (new_sending g publication from) (begun g publication from)
+        → AreFirst from stream firsts front → HaveCome (offered_by ts) firsts
+        → BeginsWith firsts front (received_all (begun g publication from) (offered_by ts)) }
 {}
