@@ -238,7 +238,7 @@ fn has_all(rt: &impl Abort, text: &str) {
     }
 }
 
-/// The 200 random calls contain each command at least once, so that the other tests of this file ask of each.
+/// Among the 200 random calls each command is accepted at least once, so the other tests of this file ask of each.
 #[test]
 fn each_command_comes_by_chance(rt: HostRuntime) -> Result<(), Fail> {
     let answers = String::from_utf8(answers_by_chance(rt.alloc())?)?;

@@ -75,7 +75,7 @@ const BANKS: [(u64, u64, u8, (&str, i64)); 9] = [
     (108, 1, 0, ("NotCatalogue", 0)),
 ];
 
-/// Opening a bank with any hostile byte answers as docs/STORAGE.md says, and changes no file.
+/// Opening each of nine hostile banks answers as docs/STORAGE.md says, and changes no file.
 #[test]
 fn an_opening_of_hostile_banks_syncs_alone(rt: HostRuntime) -> Result<(), Fail> {
     for (length, at, byte, told) in BANKS {
