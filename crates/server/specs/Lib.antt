@@ -4,3 +4,5 @@ pub mod Answering
 -- Clients at a time with their passes, and where the line `images` is.
 pub mod Clients
 pub mod ImagesLine
+-- What a connection of another protocol begins with.
+pub mod FirstBytes

@@ -141,7 +141,12 @@ fn serve_at<'x, D: Disk + Drop, A: Naming, P: Place, R: Wait + Clock, T: Reporte
     ensures number { result.number ≡ P.number }
 {
     let noted = NotedArchive { rt, archive, with };
-    let controller = Controller::<D, A, P, R, T>::new(with.alloc, noted, pass);
+    let controller = Controller::<D, A, P, R, T>::new(
+        with.alloc,
+        noted,
+        pass,
+        with.options.offers_checkpoints,
+    );
     serve_connections(rt, with, controller).into_pass()
 }
 
@@ -152,13 +157,16 @@ pub(crate) fn serve_unopened<R: Threads + Wait + Clock + Sync, T: Reporter + Dro
     with: &Connections<T>,
     places: &Places,
 ) {
+    let unopened = Unopened {
+        offers_checkpoints: with.options.offers_checkpoints,
+    };
     thread::scope(thread::scope_env(), rt, |scope| {
         for _ in 1..places.count {
-            let serving = scope.spawn(move || serve_connections(rt, with, Unopened));
+            let serving = scope.spawn(move || serve_connections(rt, with, unopened));
             if serving.is_err() {
                 with.listener.close(rt, Err(EarlyEnd::Memory));
             }
         }
-        let Unopened = serve_connections(rt, with, Unopened);
+        let _ = serve_connections(rt, with, unopened);
     });
 }

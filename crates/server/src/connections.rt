@@ -1,10 +1,13 @@
 //! Connections, one after another, and their lines. docs/SERVING.md, "Control lines".
 
-ghost use Rattle.std.specs.Prelude.{◌≡◌, ◌↔◌, IfErr, IsSome, IsTrue, OnOk};
-ghost use Rattle.tool_core.specs.Answering.{AnswersFirstLines, AnswersLines, EndsEarly};
+ghost use Rattle.std.specs.Prelude.{◌≡◌, ◌↔◌, Err, IfErr, IsSome, IsTrue, OnOk};
+ghost use Rattle.std.specs.Io.KnownBytes.{Appends};
+ghost use Rattle.frame_core.specs.declared.refusal.Refusal.TheVariants.{BadLine};
+ghost use Rattle.tool_core.specs.Answering.{AnswersFirstLines, AnswersLines, EndsEarly, outcome_text};
 ghost use Rattle.tool_core.specs.Transcript.{WritesText};
 
 use crate::client::{Client, ClientReader, ClientWriter, is_timed};
+use crate::first_bytes::FirstBytes;
 use crate::line_reader::LineReader;
 use crate::listener::SharedListener;
 use crate::options::ServeOptions;
@@ -19,7 +22,7 @@ use std::net::{TcpStream, UdpSocket};
 use std::rt::Clock;
 use std::sync::Wait;
 use std::time::Duration;
-use tool_core::{Answerer, EarlyEnd, Observer, ScriptState, answer_lines};
+use tool_core::{Answerer, EarlyEnd, Observer, ScriptState, answer_lines, write_outcome};
 
 /// Bytes of replies that are written at once at most, but for longer texts.
 const WRITTEN_AT_ONCE: usize = 65_536;
@@ -47,6 +50,8 @@ pub(crate) struct ClientOptions {
     pub closes_replays: bool,
     /// Whether one client is served at a time. Its merge goes on in the next connection.
     pub is_single: bool,
+    /// Whether the line `checkpoint` is answered.
+    pub offers_checkpoints: bool,
 }
 
 impl ClientOptions {
@@ -55,12 +60,14 @@ impl ClientOptions {
         ensures closes { IsTrue result.closes_replays ↔ IsSome options.now.clients }
         ensures single { IsTrue result.is_single ↔ (places.now.count ≡ 1) }
         ensures images { IsTrue result.lists_images ↔ IsSome options.now.window }
+        ensures checkpoints { result.offers_checkpoints ≡ options.now.makes_checkpoints }
     {
         ClientOptions {
             idle: Duration::from_secs(options.idle_seconds),
             lists_images: options.window.is_some(),
             closes_replays: options.clients.is_some(),
             is_single: places.count == 1,
+            offers_checkpoints: options.makes_checkpoints,
         }
     }
 }
@@ -139,7 +146,8 @@ fn serve_stream<R: Wait + Clock, T: Reporter, S: Server + Drop>(
     (state, client.take_next())
 }
 
-/// Answers the lines of a client until one quits, the client ends or fails, or is served no further. Whether one quit.
+/// Answers the lines of a client until one quits, the client ends or fails, or is served no further. Whether one quit. If its first
+/// bytes are another protocol's, that is answered, and nothing more of it is read.
 fn serve_client<R: Wait + Clock, T: Reporter, S: Answerer>(
     alloc: Global,
     client: &Client<'_, R, T>,
@@ -150,23 +158,32 @@ fn serve_client<R: Wait + Clock, T: Reporter, S: Answerer>(
     let Ok(mut writer) = BufWriter::with_capacity(alloc, WRITTEN_AT_ONCE, writer) else {
         return (state, false);
     };
-    if options.lists_images {
-        return serve_scripts(alloc, client, options, &mut writer, state);
+    let mut reader = FirstBytes::new(ClientReader(client));
+    match reader.are_foreign() {
+        Ok(false) => {}
+        Ok(true) => {
+            let _ = refuse(alloc, &mut writer).is_ok() && writer.flush().is_ok();
+            return (state, false);
+        }
+        Err(_) => return (state, false),
     }
-    let reader = ClientReader(client);
+    if options.lists_images {
+        return serve_scripts(alloc, client, options, reader, &mut writer, state);
+    }
     let (state, _, has_quit) = answer_script(alloc, client, options, reader, &mut writer, state);
     (state, has_quit)
 }
 
 /// Answers the lines of a client as `serve_client`, and a line `images` between them by the images.
-fn serve_scripts<R: Wait + Clock, T: Reporter, W: Write, S: Answerer>(
+fn serve_scripts<R: Wait + Clock, T: Reporter, I: Read + Drop, W: Write, S: Answerer>(
     alloc: Global,
     client: &Client<'_, R, T>,
     options: &ClientOptions,
+    reader: I,
     writer: &mut W,
     state: ScriptState<S>,
 ) -> (ScriptState<S>, bool) {
-    let Ok(mut reader) = ScriptReader::new(alloc, ClientReader(client)) else {
+    let Ok(mut reader) = ScriptReader::new(alloc, reader) else {
         return (state, false);
     };
     let mut state = state;
@@ -211,6 +228,13 @@ fn answer_script<R: Wait + Clock, T: Reporter, I: Read + Drop, W: Write, S: Answ
     (state, outcome.is_ok(), has_quit)
 }
 
+/// Writes the answer to a connection of another protocol.
+fn refuse<W: Write>(alloc: Global, writer: &mut W) -> Result<(), EarlyEnd>
+    ensures { OnOk result (Appends (W.contents writer.old) (W.contents writer.new) (outcome_text (Err BadLine))) }
+{
+    write_outcome(alloc, &Err(Refusal::BadLine), writer)
+}
+
 /// Writes the answer to the line `images`. Whether it went out.
 fn put_images<R: Wait + Clock, T: Reporter, W: Write>(
     alloc: Global,
@@ -231,8 +255,8 @@ fn answer_client<R: Read + Drop, W: Write, S: Answerer>(
     state: ScriptState<S>,
 ) -> (ScriptState<S>, Result<(), EarlyEnd>, bool)
     ensures whole { OnOk result.1 (WritesText (R.remaining reader) (W.contents writer.old) (W.contents writer.new)
-        (AnswersLines S.ways state result.0)) }
-    ensures early { IfErr result.1 (λ end. EndsEarly end (AnswersFirstLines S.ways state result.0)
+        (AnswersLines S.ways S.checkpoints state result.0)) }
+    ensures early { IfErr result.1 (λ end. EndsEarly end (AnswersFirstLines S.ways S.checkpoints state result.0)
         (R.remaining reader) (W.contents writer.old) (W.contents writer.new)) }
 {
     let mut observer = QuitObserver { has_quit: false };
