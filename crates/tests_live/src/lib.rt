@@ -19,6 +19,8 @@ mod ends;
 #[cfg(test)]
 mod failing;
 #[cfg(test)]
+mod followers;
+#[cfg(test)]
 mod held_back;
 #[cfg(test)]
 mod kept;
