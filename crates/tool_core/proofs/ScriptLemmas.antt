@@ -9,7 +9,7 @@ use Rattle.tool_core.specs.declared.state.ScriptState.{ScriptState}
 use Rattle.tool_core.specs.Answering.{AnswersFirstLines, AnswersLines, Checkpointing, Prepares, IsAnswer, Replies, RepliesOf, Ways, asked, asked_copies, begun_with, checkpointing_seen, outcome_text, quits, ways_seen}
 use Rattle.tool_core.specs.Archives.{BeginsAs, ReadsMayStay, SeenArchive, archive_ways, life_of}
 use Rattle.tool_core.specs.Script.{AnswersLineWhere, Begins, BeginsAt, IsTranscriptBy, LeavesBanksOf, LeavesScene, LeavesStanding}
-use Rattle.tool_core.specs.Checkpoints.{ChecksDue, script_checkpoints}
+use Rattle.tool_core.specs.Checkpoints.{script_checkpoints}
 use Rattle.tool_core.specs.CheckpointedScript.{AnswersScene}
 use Rattle.tool_core.specs.ScriptLines.{Scene, Standing}
 use Rattle.tool_core.specs.Transcript.{AnswersAll, AnswersSome}
