@@ -1,15 +1,13 @@
 //! Recordings that the server starts by itself. docs/SERVING.md, "Recording without being asked".
 
-ghost use Rattle.std.specs.Prelude.{◌≡◌, Err, None, Option, replicate, slice_set};
-ghost use Rattle.frame_core.specs.declared.refusal.Refusal.TheVariants.{StaleSession};
-ghost use Rattle.archive_lock.specs.declared.standing.Standing.{Standing};
-ghost use Rattle.server_recorder.specs.Seats.{CallsAt, MakesCall};
+ghost use Rattle.std.specs.Prelude.{◌≡◌, None, replicate, slice_set};
+ghost use Rattle.server_recorder.specs.Seats.{MakesCall};
 
+use crate::checkpoints::keep_short;
 use crate::recording::Recording;
 use crate::seats::Seats;
-use crate::stopping::note_standing;
 use crate::streams::{Finding, extend_fields, finding, stand_before, start_fields};
-use archive_lock::Naming;
+use archive_lock::{Naming, Standing};
 use archive_model::{Channel, Descriptor, Reply, SourceIdentity};
 use control_core::{Event, Request};
 use disk_core::Disk;
@@ -326,23 +324,33 @@ fn start_from<D: Disk, A: Naming, R: Wait + Clock, T: Reporter>(
     }
 }
 
-/// Makes a call by the pass of the first seat, and notes its answer and where the archive stands after it, before or after each
-/// other call that is noted.
+/// Makes a call by the pass of the seats, and notes its answer and where the archive stands after it. A checkpoint follows if the
+/// call leaves one due.
 fn call<D: Disk, A: Naming, R: Wait, T: Reporter>(
     with: &Recording<'_, D, A, R, T>,
     seats: &mut Seats<A>,
     event: &Event,
-) -> Result<Reply, Refusal>
-    ensures { (standing : Option Standing) × CallsAt 0 (Err StaleSession, None) seats.old (result, standing) seats.new
-        (MakesCall D.life A.opening event.now) }
-{
-    let _turn = with.shared.turn.lock(with.rt);
-    let (outcome, standing) = seats.call(with.rt, with.alloc, with.archive, 0, event);
-    with.shared.note(with.rt, event, &outcome);
+) -> Result<Reply, Refusal> {
+    let (outcome, standing) = noted_call(with, seats, event);
     if let Some(standing) = standing {
-        note_standing(with.shared, &standing);
+        keep_short(with, seats, &standing);
     }
     outcome
+}
+
+/// Makes a call by the pass of the seats, and notes its answer, before or after each other call that is noted. Where the archive
+/// stands after it.
+fn noted_call<D: Disk, A: Naming, R: Wait, T: Reporter>(
+    with: &Recording<'_, D, A, R, T>,
+    seats: &mut Seats<A>,
+    event: &Event,
+) -> (Result<Reply, Refusal>, Option<Standing>)
+    ensures { MakesCall D.life A.opening event.now seats.old result seats.new }
+{
+    let _turn = with.shared.turn.lock(with.rt);
+    let (outcome, standing) = seats.call(with.rt, with.alloc, with.archive, event);
+    with.shared.note(with.rt, event, &outcome);
+    (outcome, standing)
 }
 
 /// The channel of what comes to an address.

@@ -3,6 +3,7 @@
 
 mod archive_news;
 mod asking;
+mod checkpointing;
 mod client_news;
 mod counted;
 mod counts;
@@ -22,10 +23,12 @@ mod reporter;
 mod resume_news;
 mod resuming;
 mod session_news;
+mod settle_notice;
 mod shared;
 mod stopwatch;
 
 pub use archive_news::ArchiveNews;
+pub use checkpointing::Checkpointing;
 pub use client_news::ClientNews;
 pub use counted::{Counted, ImageCounted};
 pub use counts::{Count, Counts, ImageCounts};
@@ -40,5 +43,6 @@ pub use reporter::{LineReporter, Reporter, Unreported};
 pub use resume_news::{HoleCause, ResumeNews};
 pub use resuming::{Resumes, Stand, is_resumable, is_same_stream, is_within_reach, reach};
 pub use session_news::SessionNews;
+pub use settle_notice::SettleNotice;
 pub use shared::{ReceivedMeasures, Resumption, Shared, SharedOptions, WaitingImage};
 pub use stopwatch::Stopwatch;

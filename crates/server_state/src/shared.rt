@@ -4,6 +4,7 @@ ghost use Rattle.std.specs.Prelude.{◌≡◌};
 ghost use Rattle.server_state.specs.Noting.{opens_session};
 
 use crate::archive_news::ArchiveNews;
+use crate::checkpointing::Checkpointing;
 use crate::client_news::ClientNews;
 use crate::counts::Counts;
 use crate::happening::Happening;
@@ -20,6 +21,7 @@ use crate::reporter::Reporter;
 use crate::resume_news::ResumeNews;
 use crate::resuming::{Resumes, Stand, is_resumable};
 use crate::session_news::SessionNews;
+use crate::settle_notice::SettleNotice;
 use archive_model::Reply;
 use control_core::Event;
 use frame_core::Refusal;
@@ -29,7 +31,7 @@ use std::net::{SocketAddr, UdpSocket};
 use std::sync::atomic::{AtomicBool, AtomicU8, Ordering};
 use std::sync::{Mutex, Wait};
 use stream_pairs::{FED_SESSIONS, ImageNumber, MAX_IMAGES, Pairs, Place, Seat, StreamPoint};
-use tool_core::HistoryUse;
+use tool_core::{CheckpointOutcome, HistoryUse};
 
 /// An image that waits for a session.
 #[derive(Clone, Copy, Drop)]
@@ -75,6 +77,8 @@ pub struct SharedOptions {
     pub is_strict: bool,
     /// Whether it is measured.
     pub is_measured: bool,
+    /// Whether it makes checkpoints.
+    pub makes_checkpoints: bool,
 }
 
 /// What the threads share. A method takes one lock at most, and reports what happened when it has none.
@@ -85,10 +89,14 @@ pub struct Shared<T> {
     origins: Mutex<Origins>,
     /// Blocks on their way.
     pub queue: Queue,
+    /// Wakes those who wait until something more is settled.
+    pub settles: SettleNotice,
     /// What is counted.
     pub counts: Counts,
     /// What is counted for the metrics alone.
     pub meter: Meter,
+    /// When checkpoints are made.
+    pub checkpointing: Checkpointing,
     ends: AtomicBool,
     looks_round: AtomicBool,
     /// Calls that make entries are made and noted one after another.
@@ -116,8 +124,10 @@ impl<T: Reporter> Shared<T> {
             pairing: Mutex::new(Pairing::new(pairs, options.gives_back)),
             origins: Mutex::new(Origins::new()),
             queue: Queue::new(alloc)?,
+            settles: SettleNotice::new(),
             counts: Counts::new(alloc)?,
             meter: Meter::new(options.is_measured),
+            checkpointing: Checkpointing::new(options.makes_checkpoints),
             ends: AtomicBool::new(false),
             looks_round: AtomicBool::new(false),
             turn: Mutex::new(()),
@@ -261,6 +271,10 @@ impl<T: Reporter> Shared<T> {
                         self.report_session(rt, *session);
                         true
                     }
+                    Reply::Settled { .. } => {
+                        self.settles.note(rt);
+                        false
+                    }
                     _ => false,
                 }
             }
@@ -299,10 +313,29 @@ impl<T: Reporter> Shared<T> {
     /// So many entries of the history count, and so many may: reported at 90, 95 and 99 hundredths, each once.
     pub fn note_history(&self, counted: u64, limit: u32) {
         self.meter.set_history(counted, limit);
+        self.checkpointing.note(counted, limit);
         let history = HistoryUse { counted, limit };
         let level = history.level();
         if level > 0 && self.history.fetch_max(level, Ordering::SeqCst) < level {
             self.report(&Happening::Archive(ArchiveNews::HistoryUsed(history)));
+        }
+    }
+
+    /// A checkpoint ended so, with which so many entries count, of so many that may. It is reported if it was made, and each
+    /// cause of a refusal once. Warnings of a history that fills up come again after one that was made.
+    pub fn note_checkpoint(&self, outcome: &CheckpointOutcome, counted: u64, limit: u32) {
+        match outcome {
+            CheckpointOutcome::Made { .. } => {
+                self.history.store(0, Ordering::SeqCst);
+                self.meter.checkpoints.add(1);
+            }
+            CheckpointOutcome::Refused(cause) => {
+                self.note_refusal(cause);
+                self.meter.refused_checkpoints.add(1);
+            }
+        }
+        if self.checkpointing.ended(outcome, counted, limit) {
+            self.report(&Happening::Archive(ArchiveNews::Checkpoint(*outcome)));
         }
     }
 
@@ -478,6 +511,7 @@ impl<T: Reporter> Shared<T> {
     /// A session settled, and is recorded up to a position.
     pub fn settled<R: Wait>(&self, rt: &R, session: i64, position: i64) {
         settle(&mut self.pairing.lock(rt).pairs, session, position);
+        self.settles.note(rt);
     }
 
     /// The open session that writes a recording is to settle at once, if there is one. Its seat. Waits for nothing.

@@ -1,7 +1,7 @@
-//! 200 calls by chance, with a stop after each change of the disk, three crashes and an opening each: what is opened is
-//! what the plain book makes of the calls that were accepted, or of these and the one in flight. And compactions among such
-//! calls, each stopped after each of its changes: what is opened is what the book makes of the calls before. And replays
-//! between 500 such calls: they give the frames of the book.
+//! 200 random calls with a stop after each change of the disk, three crashes and an opening each. What is opened is what
+//! the plain book makes of the accepted calls, or of these and the one in flight. Compactions between such calls, each
+//! stopped after each of its changes, leave what the book makes of the calls before. Replays between 500 such calls give
+//! the frames of the book.
 
 use crate::calls::{TERM, event_of, opened};
 use crate::reference::{Story, polled, replayed, text_of_book};
@@ -238,6 +238,7 @@ fn has_all(rt: &impl Abort, text: &str) {
     }
 }
 
+/// Among the 200 random calls each command is accepted at least once, so the other tests of this file ask of each.
 #[test]
 fn each_command_comes_by_chance(rt: HostRuntime) -> Result<(), Fail> {
     let answers = String::from_utf8(answers_by_chance(rt.alloc())?)?;
@@ -245,6 +246,7 @@ fn each_command_comes_by_chance(rt: HostRuntime) -> Result<(), Fail> {
     Ok(())
 }
 
+/// If the disk stops after any change, a crash leaves what the accepted calls made, or these and the one in flight.
 #[test]
 fn each_stop_leaves_a_beginning_of_the_calls(rt: HostRuntime) -> Result<(), Fail> {
     for changes in 0..1_000 {
@@ -257,6 +259,8 @@ fn each_stop_leaves_a_beginning_of_the_calls(rt: HostRuntime) -> Result<(), Fail
     Ok(())
 }
 
+/// If the disk stops after any change of one of five compactions between random calls, a crash leaves the recordings and
+/// frames before it.
 #[test]
 fn each_stop_of_a_compaction_leaves_the_state(rt: HostRuntime) -> Result<(), Fail> {
     assert!(rt; compactions_survived(rt.alloc())?);

@@ -1,4 +1,4 @@
-//! The plain book of an archive, and the register: scenarios of docs/SCENARIOS.md at the calls of plain_book and archive_model.
+//! The plain book of an archive, and the register: the worked scenarios at the calls of plain_book and archive_model.
 
 use crate::catalogues::register_of_bank;
 use crate::vectors::{HELLO_AT_0, HELLO_AT_64, HELLO_AT_128};
@@ -148,6 +148,7 @@ fn check_stopped(rt: &impl Abort, alloc: Global, book: &mut Book) -> Result<(), 
     Ok(())
 }
 
+/// The plain book records three frames, replays them, and stops the recording at its end.
 #[test]
 fn first_recording_and_replay(rt: HostRuntime) -> Result<(), Fail> {
     let mut book = three_hellos(rt.alloc())?;
@@ -192,8 +193,8 @@ fn check_again(rt: &impl Abort, alloc: Global, book: &mut Book) -> Result<(), Fa
     Ok(())
 }
 
-/// A refused request for memory is told as NoMemory and changes nothing, and the call may be made again:
-/// trials/refused_memory.py runs this test for each of its requests for memory, which it refuses.
+/// A refused request for memory is answered NoMemory and changes nothing, and the call may be made again.
+/// trials/refused_memory.py refuses each of its requests in turn.
 #[test]
 fn refused_memory_changes_nothing(rt: HostRuntime) -> Result<(), Fail> {
     let mut book = Book::new(rt.alloc(), 2);
@@ -214,8 +215,8 @@ fn poll_late(rt: &impl Abort, alloc: Global, book: &Book) -> Result<(), Fail> {
     Ok(())
 }
 
-/// A poll copies the frames that it gives and no other: trials/refused_memory.py counts its requests for memory,
-/// a list and the bytes of each frame given.
+/// A poll copies the frames that it gives and no other. trials/refused_memory.py counts its requests for memory: a list,
+/// and the bytes of each frame given.
 #[test]
 fn counted_memory_of_a_late_poll(rt: HostRuntime) -> Result<(), Fail> {
     let book = three_hellos(rt.alloc())?;

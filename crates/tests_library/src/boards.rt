@@ -52,6 +52,7 @@ fn look_for_the_last(board: &Board, mut reader: Reader) -> (Reader, bool)
     (reader, false)
 }
 
+/// A position that one thread raises is seen by a reader in another thread.
 #[test]
 fn a_position_is_seen_in_another_thread(rt: HostRuntime) -> Result<(), Fail> {
     let (board, mut writers, mut readers) = Board::new(rt.alloc(), &[0], 1)?;
@@ -100,8 +101,7 @@ fn is_made(alloc: Global, starts: &[i64], readers: usize) -> bool {
     Board::new(alloc, starts, readers).is_ok()
 }
 
-/// Where memory is refused once, a board may be made again: trials/refused_memory.py runs this test for each of its
-/// requests for memory, which it refuses.
+/// If memory is refused once, a board may be made again. trials/refused_memory.py refuses each of its requests in turn.
 #[test]
 fn refused_memory_makes_no_board(rt: HostRuntime) {
     let alloc = rt.alloc();

@@ -1,4 +1,4 @@
-//! Conversations with a server, as text: docs/SCENARIOS.md, "Serving".
+//! Conversations with a server, as text: docs/SERVING.md, "Control lines".
 //!
 //! An empty line ends a connection, and the next line begins another one. Behind a line's word stands what is said, or the
 //! name of a datagram of `vectors`, and behind a colon what has to be answered:

@@ -7,6 +7,8 @@ mod agents;
 #[cfg(test)]
 mod archives;
 #[cfg(test)]
+mod checkpoints;
+#[cfg(test)]
 mod client;
 #[cfg(test)]
 mod conversations;
@@ -17,6 +19,8 @@ mod ends;
 #[cfg(test)]
 mod failing;
 #[cfg(test)]
+mod followers;
+#[cfg(test)]
 mod held_back;
 #[cfg(test)]
 mod kept;
@@ -26,6 +30,8 @@ mod leaving;
 mod metrics;
 #[cfg(test)]
 mod misfits;
+#[cfg(test)]
+mod protocols;
 #[cfg(test)]
 mod receivers;
 #[cfg(test)]

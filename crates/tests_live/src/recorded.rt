@@ -17,6 +17,8 @@ pub(crate) fn recorder(streams: &[i32]) -> ServeOptions<'_> {
         segment_length: SEGMENT_LENGTH,
         is_strict: false,
         is_measured: false,
+        makes_checkpoints: false,
+        begins_short: false,
     }
 }
 

@@ -1,4 +1,4 @@
-//! Frames as bytes: docs/SCENARIOS.md, "Vectors of frames".
+//! Frames as bytes: docs/PROTOCOL.md, "Vectors".
 
 /// `hello`, term 42, offset 0.
 pub(crate) const HELLO_AT_0: &[u8] =

@@ -1,4 +1,4 @@
-//! Archives that are compacted: docs/SCENARIOS.md.
+//! Archives that are compacted: docs/STORAGE.md, "Compaction".
 
 use super::disks::{recorded, with_short_history};
 use super::frames::FullWriter;
@@ -37,7 +37,7 @@ const BANK_A: [u8; 118] = [
 ];
 
 /// Fails where a file of the disk has other bytes, or more.
-fn check_file(disk: &mut MemoryDisk, file: FileId, bytes: &[u8]) -> Result<(), Fail> {
+pub fn check_file(disk: &mut MemoryDisk, file: FileId, bytes: &[u8]) -> Result<(), Fail> {
     let mut read = [0; 200];
     let count = disk.read_at(file, 0, &mut read)?;
     if read.get(..count) == Some(bytes) {
@@ -74,7 +74,7 @@ fn full_history_and_compaction(rt: HostRuntime) -> Result<(), Fail> {
     Ok(())
 }
 
-/// The second bank behind such a compaction, and the first one behind a further one.
+/// The bytes of the second bank after such a compaction, and of the first one after a further one.
 #[test]
 fn banks_behind_a_compaction(rt: HostRuntime) -> Result<(), Fail> {
     let disk = check_bank(
@@ -170,8 +170,7 @@ pub fn check_stopped(
 /// The disk as it is, and three crashes.
 pub const CHOICES: [Option<u8>; 4] = [None, Some(0), Some(1), Some(255)];
 
-/// After each number of changes at which the disk may stop, and after each such crash, the archive opens and says the same,
-/// and is compacted.
+/// Wherever the disk stops, and after each crash then, the archive opens, says the same, and is compacted.
 #[test]
 fn a_compaction_that_stops(rt: HostRuntime) -> Result<(), Fail> {
     for changes in 0..20 {
@@ -207,6 +206,7 @@ fn behind_the_command(alloc: Global, disk: MemoryDisk) -> Result<MemoryDisk, Fai
     Ok(disk)
 }
 
+/// `compact` prints `compacted`, stops the active recording, and keeps its frames.
 #[test]
 fn the_command_compacts(rt: HostRuntime) -> Result<(), Fail> {
     let disk = recorded(rt.alloc(), MemoryDisk::new(rt.alloc()))?;
@@ -225,6 +225,7 @@ fn ended(alloc: Global, disk: MemoryDisk) -> Option<Stop> {
     compact(alloc, disk, &mut FullWriter { room: 0 }).err()
 }
 
+/// `compact` ends early if its output takes nothing, or if the other bank is missing.
 #[test]
 fn the_command_ends_early(rt: HostRuntime) -> Result<(), Fail> {
     let disk = recorded(rt.alloc(), MemoryDisk::new(rt.alloc()))?;
@@ -259,7 +260,7 @@ fn told_of_history(alloc: Global, counting: &mut Counting) -> Result<(), Fail> {
     }
 }
 
-/// How full the history is, is told at the opening and behind each line.
+/// How full the history is, is reported at the opening and after each line.
 #[test]
 fn a_history_that_fills_up(rt: HostRuntime) -> Result<(), Fail> {
     let mut counting = Counting {

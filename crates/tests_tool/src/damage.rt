@@ -57,6 +57,8 @@ fn check(
     check_on(alloc, damaged(alloc, recording, how)?, lines, told)
 }
 
+/// A script over an archive with one damaged recording is answered Damaged where it reads the damage, and as usual
+/// everywhere else.
 #[test]
 fn a_session_over_damage(rt: HostRuntime) -> Result<(), Fail> {
     for how in [Damage::Cut(31), Damage::Cleared(2), Damage::Gone] {
@@ -94,7 +96,8 @@ fn a_whole_term_past_damage(rt: HostRuntime) -> Result<(), Fail> {
     Ok(())
 }
 
-/// A recording that begins in the middle of a term: its start is a boundary, and what follows in that term is past the damage.
+/// Of a recording that begins in the middle of a term the start is a boundary, and what follows in that term is past the
+/// damage.
 #[test]
 fn a_first_term_that_is_damaged(rt: HostRuntime) -> Result<(), Fail> {
     for how in [Damage::Cut(65_500), Damage::Cleared(65_472)] {

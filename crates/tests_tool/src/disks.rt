@@ -1,4 +1,4 @@
-//! Scripts over disks that are not empty, that fail, or whose archive is refused: docs/SCENARIOS.md.
+//! Scripts over disks that are not empty, that fail, or whose archive is refused: docs/CONTROL.md, "Openings".
 
 use super::reports::damaged;
 use super::scenarios::{check, check_on};
@@ -17,6 +17,8 @@ pub fn recorded(alloc: Global, disk: MemoryDisk) -> Result<MemoryDisk, Fail> {
     )
 }
 
+/// A second script over the same disk finds the recordings, stopped, and extends them, but none of the sessions and
+/// replays of the first.
 #[test]
 fn a_second_script_goes_on(rt: HostRuntime) -> Result<(), Fail> {
     check_on(
@@ -30,6 +32,7 @@ fn a_second_script_goes_on(rt: HostRuntime) -> Result<(), Fail> {
     Ok(())
 }
 
+/// `reopen` stops active recordings, drops unsettled blocks, and ends sessions and replays, but not the merge.
 #[test]
 fn reopened_twice(rt: HostRuntime) -> Result<(), Fail> {
     check(
@@ -43,6 +46,7 @@ fn reopened_twice(rt: HostRuntime) -> Result<(), Fail> {
     )
 }
 
+/// A script reports a damaged frame by its recording and position in `verify` and in each poll that comes to it.
 #[test]
 fn damaged_frame(rt: HostRuntime) -> Result<(), Fail> {
     check_on(
@@ -108,6 +112,7 @@ fn without_catalogue(alloc: Global) -> Result<MemoryDisk, Fail> {
     Ok(disk)
 }
 
+/// If the archive cannot be opened, each archive line is answered Broken, `reopen` gives the reason, and merges go on.
 #[test]
 fn an_archive_that_is_refused(rt: HostRuntime) -> Result<(), Fail> {
     check_on(
@@ -138,7 +143,7 @@ fn a_fault_and_a_reopening(rt: HostRuntime) -> Result<(), Fail> {
     Ok(())
 }
 
-/// The disk stops while a block is settled, and goes on behind the script: opening is refused meanwhile.
+/// The disk stops while a block is settled, and goes on after the script: opening is refused meanwhile.
 #[test]
 fn a_stop_and_another_script(rt: HostRuntime) -> Result<(), Fail> {
     let mut disk = MemoryDisk::new(rt.alloc());
@@ -159,8 +164,7 @@ fn a_stop_and_another_script(rt: HostRuntime) -> Result<(), Fail> {
     Ok(())
 }
 
-/// A disk that stops before it lists its files, while an archive is opened: the script is answered, and its archive is
-/// opened by another script.
+/// If a disk stops before it lists its files at an opening, the script is answered, and another script opens the archive.
 #[test]
 fn a_stop_at_the_first_opening(rt: HostRuntime) -> Result<(), Fail> {
     let mut disk = recorded(rt.alloc(), MemoryDisk::new(rt.alloc()))?;
@@ -225,7 +229,7 @@ fn crashed(alloc: Global, changes: u64, told: &str, choice: u8) -> Result<Memory
     Ok(disk.crash(&[choice])?)
 }
 
-/// A crash while a block is settled leaves it recorded or not, and once that is told, recorded.
+/// A crash while a block is settled leaves it recorded or not, and once the settle is answered, recorded.
 #[test]
 fn a_crash_and_another_script(rt: HostRuntime) -> Result<(), Fail> {
     for (changes, told, choice, recorded) in CRASHES {

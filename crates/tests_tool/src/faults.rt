@@ -52,6 +52,7 @@ fn end_of_reader(alloc: Global, at_once: usize) -> (Option<EarlyEnd>, bool) {
     )
 }
 
+/// If the input fails, the script ends, and each whole line before the fault has been answered.
 #[test]
 fn a_failing_reader_loses_no_reply(rt: HostRuntime) {
     for at_once in [1, 7, 1_000] {
@@ -70,6 +71,7 @@ fn end_of_writer(alloc: Global, room: usize) -> Option<EarlyEnd> {
     end_of(alloc, b"list 0 0\nlist 0 0\n".as_slice(), &mut writer)
 }
 
+/// If the output takes no more bytes, the script ends with a write fault.
 #[test]
 fn a_failing_writer_ends_the_script(rt: HostRuntime) {
     for room in 0..12 {
@@ -88,8 +90,8 @@ fn end_of_holder(alloc: Global, bytes: &[u8]) -> Option<EarlyEnd> {
     end_of(alloc, failing(bytes, 100), &mut writer)
 }
 
-/// A reply is handed on before the next read, also where half of the next line is at hand, and at the end; what could not
-/// be handed on is Write, and not the fault of the reader that would have come next.
+/// A reply is written before the next read, even if half of the next line is there, and at the end. A failed write is
+/// Write, whatever fault of the reader would have come next.
 #[test]
 fn a_reply_is_handed_on_before_the_next_read(rt: HostRuntime) {
     for bytes in [b"list 0 0\n".as_slice(), b"list 0 0\nlist", b"quit\n"] {
@@ -98,6 +100,7 @@ fn a_reply_is_handed_on_before_the_next_read(rt: HostRuntime) {
     }
 }
 
+/// Replies are appended to what the output held before.
 #[test]
 fn what_was_written_before_stays(rt: HostRuntime) -> Result<(), Fail> {
     let mut out = b"before\n".to_vec(rt.alloc())?;

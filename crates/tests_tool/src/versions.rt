@@ -1,4 +1,4 @@
-//! Archives whose catalogue is of version 1, and what becomes of them by a compaction: docs/SCENARIOS.md.
+//! Archives whose catalogue is of version 1, and what a compaction makes of them: docs/STORAGE.md, "Compaction".
 
 use super::compactions::{CHOICES, check_bank, check_stopped};
 use super::scenarios::check_on;
@@ -58,7 +58,7 @@ fn put(disk: &mut MemoryDisk, file: FileId, bytes: &[u8]) -> Result<(), Fail> {
 }
 
 /// A disk with the archive of version 1: a recording with one frame, which is active.
-fn of_version_1(alloc: Global) -> Result<MemoryDisk, Fail> {
+pub fn of_version_1(alloc: Global) -> Result<MemoryDisk, Fail> {
     let mut disk = MemoryDisk::new(alloc);
     let segment = FileId::Segment {
         recording: 0,
@@ -158,8 +158,8 @@ fn no_source_is_told(rt: HostRuntime) -> Result<(), Fail> {
     Ok(())
 }
 
-/// After each number of changes at which the disk may stop, and after a crash there, the archive opens in the version that it
-/// has come to, says the same, and is compacted.
+/// Wherever the disk stops, and after a crash there, the archive opens in the version that it has come to, says the same,
+/// and is compacted.
 #[test]
 fn a_migration_that_stops(rt: HostRuntime) -> Result<(), Fail> {
     for changes in 0..20 {
