@@ -1,2 +1,3 @@
 mod ClientLemmas
 mod ServingLemmas
+mod FollowingLemmas
