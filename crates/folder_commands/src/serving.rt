@@ -1,6 +1,6 @@
 //! The command `serve`: its words, its ports, and the archive of its folder. docs/SERVING.md, "How to run it".
 
-ghost use Rattle.std.specs.Prelude.{◌≡◌, ◌≤◌, ◌<◌, ◌↔◌, IfErr, IfOk, IsTrue, MatchResult};
+ghost use Rattle.std.specs.Prelude.{◌≡◌, ◌≤◌, ◌<◌, ◌↔◌, IfErr, IfOk, IfSome, IsSomeAnd, IsTrue, MatchResult, option_map};
 ghost use Rattle.std.specs.IoError.{error_kind};
 ghost use Rattle.clap.specs.declared.error.ErrorKind.TheVariants.{ValueValidation};
 ghost use Rattle.host_disk.specs.Events.{Given};
@@ -9,7 +9,7 @@ ghost use Rattle.folder_commands.specs.declared.status.Ending.TheVariants.{NoCom
 ghost use Rattle.folder_commands.specs.declared.why.Why.TheVariants.{Usage};
 ghost use Rattle.folder_commands.specs.Folders.{ending_in};
 ghost use Rattle.folder_commands.specs.Left.{ends_with, leaves, sees};
-ghost use Rattle.folder_commands.specs.Serving.{AreOptions, HasBadOptions, HasBadSegments, HasBadStreams, HasBadWindow, HasNoEnds, HasSegments, HasWindow, IsAddressReason, IsNoAddress, IsReceiverWindow, IsSegmentLength, IsUnbound, RecordsStreams, ServesFolder, ServesOver, segment_reason, streams_reason, window_reason};
+ghost use Rattle.folder_commands.specs.Serving.{AreOptions, HasBadOptions, HasBadSegments, HasBadStreams, HasBadWindow, HasNoConsumersEnd, HasNoEnds, HasSegments, HasWindow, IsAddressReason, IsNoAddress, IsReceiverWindow, IsRefusedPort, IsSegmentLength, IsUnbound, RecordsStreams, ServesFolder, ServesOver, segment_reason, streams_reason, window_reason};
 
 use crate::commands::disk_of;
 use crate::exit::Exit;
@@ -25,7 +25,7 @@ use command_line::{ServeWords, UsageError};
 use disk_core::Disk;
 use flow_control::{INITIAL_WINDOW, LONGEST_WINDOW, SHORTEST_WINDOW};
 use frame_core::limits::{FRAME_ALIGNMENT, MAX_TERM_LENGTH, MIN_TERM_LENGTH};
-use server::{Reporter, SEGMENT_LENGTH, ServeOptions, Served, serve_with};
+use server::{Ends, Reporter, SEGMENT_LENGTH, ServeOptions, Served, serve_with};
 use std::alloc::Global;
 use std::io::{self, Eprint};
 use std::net::{Ipv4Addr, Net, TcpListener, TcpStream, UdpSocket};
@@ -38,13 +38,6 @@ use std::thread::Threads;
 /// Streams that `--record` may name at most.
 const MOST_STREAMS: usize = 64;
 
-/// The listener of control lines, and the socket of datagrams.
-#[derive(Drop)]
-struct Ports {
-    listener: TcpListener,
-    socket: UdpSocket,
-}
-
 /// Serves the archive of a folder as the words ask for, until a line quits, and reports on standard error what happens. If the
 /// words are wrong, no port is bound and the folder is not opened. It is reported if the archive's catalogue may hide entries; a
 /// strict server does not open it then.
@@ -55,7 +48,7 @@ pub(crate) fn serve<
     ensures { ServesFolder given words.now (sees result) (leaves result) (ends_with result) }
 {
     let options = options_of(words, receiver_id(&rt))?;
-    let ports = bound(net, words)?;
+    let ends = bound(net, words)?;
     let folder = Path::new(words.folder);
     let disk = disk_of(rt, folder)?;
     if let Some(looked) = warns_of_hidden(rt, folder, &Screen::new(net)) {
@@ -70,7 +63,7 @@ pub(crate) fn serve<
     let disk = Watched::new(disk, ServeFaults::new(rt.alloc(), net));
     let metrics = metrics_of(rt, words);
     let reporter = ServeReporter::new(net, words.is_quiet, metrics);
-    let (disk, done) = serve_disk(net, rt.alloc(), ports, disk, &options, reporter);
+    let (disk, done) = serve_disk(net, rt.alloc(), ends, disk, &options, reporter);
     Outcome::leaving(done, closed(disk))
 }
 
@@ -178,41 +171,96 @@ pub(crate) fn misworded(error: UsageError) -> Exit
     }
 }
 
-/// The address that a word names. Refused if it names none, or a multicast address: no one machine has that.
-fn address_of(word: &str) -> Result<Ipv4Addr, Exit>
+/// The address that a word names. Refused if it names none, or a multicast address, which no one machine has: for these reasons.
+fn address_of(word: &str, none: UsageError, multicast: UsageError) -> Result<Ipv4Addr, Exit>
     ensures address { MatchResult result
         (λ _. IsNoAddress word.now → ⊥)
         (λ exit. IsNoAddress word.now × (exit.ending ≡ NoCommand ValueValidation)) }
-    ensures why { IfErr result (λ exit. IsAddressReason word.now exit.why) }
+    ensures why { IfErr result (λ exit. IsAddressReason none multicast word.now exit.why) }
 {
     let Ok(address) = word.parse::<Ipv4Addr>() else {
-        return Err(misworded(UsageError::Address));
+        return Err(misworded(none));
     };
     if address.is_multicast() {
-        return Err(misworded(UsageError::Multicast));
+        return Err(misworded(multicast));
     }
     Ok(address)
 }
 
-/// Binds the ports: control lines to 127.0.0.1 alone, datagrams to an address. Refused if the words name no address or no
-/// port, and if the system refuses one.
+/// Where lines of consumers come to: the port of `--consumers`, at the address of `--consumers-on`, or at 127.0.0.1. None without
+/// a port. Refused if there is an address and no port, and if the words name no address or no port.
+fn consumers_end(words: &ServeWords<'_>) -> Result<Option<(Ipv4Addr, u16)>, Exit>
+    ensures end { MatchResult result
+        (λ _. HasNoConsumersEnd words.now → ⊥)
+        (λ exit. HasNoConsumersEnd words.now × (exit.ending ≡ NoCommand ValueValidation)) }
+    ensures port { IfOk result (λ end. option_map (λ e. e.1) end ≡ words.now.consumers) }
+{
+    let Some(port) = words.consumers else {
+        return match words.consumers_on {
+            None => Ok(None),
+            Some(_) => Err(misworded(UsageError::NeedsConsumers)),
+        };
+    };
+    let address = consumers_address(words)?;
+    Ok(Some((address, port_of(port)?)))
+}
+
+/// The address that lines of consumers come to.
+fn consumers_address(words: &ServeWords<'_>) -> Result<Ipv4Addr, Exit>
+    ensures { MatchResult result
+        (λ _. IfSome words.now.consumers_on (λ word. IsNoAddress word.now → ⊥))
+        (λ exit. IsSomeAnd words.now.consumers_on (λ word. IsNoAddress word.now)
+        × (exit.ending ≡ NoCommand ValueValidation)) }
+{
+    match words.consumers_on {
+        None => Ok(Ipv4Addr::LOCALHOST),
+        Some(word) => address_of(
+            word,
+            UsageError::ConsumersAddress,
+            UsageError::ConsumersMulticast,
+        ),
+    }
+}
+
+/// Binds the ports: control lines to 127.0.0.1 alone, datagrams and lines of consumers each to an address. Refused if the words
+/// name no address or no port, and if the system refuses one.
 fn bound<R: Net<Listener = TcpListener, Stream = TcpStream>>(
     net: &R,
     words: &ServeWords<'_>,
-) -> Result<Ports, Exit>
+) -> Result<Ends, Exit>
     ensures { MatchResult result
         (λ _. HasNoEnds words.now → ⊥)
         (λ exit. IsUnbound words.now exit.ending) }
 {
-    let address = address_of(words.receive_on)?;
+    let address = address_of(words.receive_on, UsageError::Address, UsageError::Multicast)?;
     let (control, receive) = (port_of(words.control)?, port_of(words.receive)?);
-    let listener = match TcpListener::bind(net, (Ipv4Addr::LOCALHOST, control)) {
-        Ok(listener) => listener,
-        Err(error) => return Err(unbound(control, error)),
+    let consumers = consumers_end(words)?;
+    let control = listener_at(net, Ipv4Addr::LOCALHOST, control)?;
+    let consumers = match consumers {
+        Some((address, port)) => Some(listener_at(net, address, port)?),
+        None => None,
     };
     match UdpSocket::bind(net, (address, receive)) {
-        Ok(socket) => Ok(Ports { listener, socket }),
+        Ok(datagrams) => Ok(Ends {
+            control,
+            consumers,
+            datagrams,
+        }),
         Err(error) => Err(unbound(receive, error)),
+    }
+}
+
+/// Binds a port for connections to an address.
+fn listener_at<R: Net<Listener = TcpListener, Stream = TcpStream>>(
+    net: &R,
+    address: Ipv4Addr,
+    port: u16,
+) -> Result<TcpListener, Exit>
+    ensures { IfErr result (λ exit. IsRefusedPort exit.ending) }
+{
+    match TcpListener::bind(net, (address, port)) {
+        Ok(listener) => Ok(listener),
+        Err(error) => Err(unbound(port, error)),
     }
 }
 
@@ -251,15 +299,14 @@ fn serve_disk<
 >(
     net: &R,
     alloc: Global,
-    ports: Ports,
+    ends: Ends,
     disk: D,
     options: &ServeOptions<'_>,
     reporter: T,
 ) -> (D, Result<(), Exit>)
     ensures { ServesOver options.now.is_strict (D.life disk) (D.life result.0) (ending_in result.1) }
 {
-    let Ports { listener, socket } = ports;
-    match serve_with(net, alloc, listener, socket, disk, options, reporter) {
+    match serve_with(net, alloc, ends, disk, options, reporter) {
         Ok(Served { disk, stop }) => match stop {
             None => (disk, Ok(())),
             Some(stop) => (disk, Err(Exit::reported(Ending::Stuck(stop)))),

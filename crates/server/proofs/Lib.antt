@@ -1,2 +1,3 @@
 mod ClientLemmas
+mod ConsumerLemmas
 mod ServingLemmas

@@ -3,4 +3,6 @@ pub mod Serving
 pub mod Answering
 -- Clients at a time with their passes, and where the line `images` is.
 pub mod Clients
+pub mod Consumers
+pub mod ConsumerLines
 pub mod ImagesLine

@@ -6,7 +6,8 @@ ghost use Rattle.call_history.specs.Passes.{AllOfTable};
 ghost use Rattle.server.specs.Clients.{AreBack, IsBack};
 
 use crate::answering::{Controller, NotedArchive};
-use crate::connections::{Connections, serve_connections};
+use crate::connections::{Connections, Port, serve_connections};
+use crate::consumer::Consumer;
 use crate::place::{Place, Places};
 use crate::unopened::Unopened;
 use archive_lock::{Made, Naming, SharedArchive};
@@ -54,7 +55,7 @@ pub(crate) fn serve_clients<
         return passes;
     };
     if passes.is_empty() {
-        passes.push_reserved(serve_by(rt, with, archive, pass));
+        passes.push_reserved(serve_by(rt, with, &with.control, archive, pass));
         return passes;
     }
     serve_beside(rt, with, archive, passes, pass)
@@ -94,15 +95,16 @@ fn serve_beside<
             let promise = GivesBack {
                 pass: Snapshot::of(&pass),
             };
+            let port = with.port_of(rest.len());
             let serving = scope.spawn_with(
                 promise,
                 move || -> Pass<Made>
                     requires { pass.table ≡ A.table }
                     ensures { IsBack pass result }
-                { serve_by(rt, with, archive, pass) },
+                { serve_by(rt, with, port, archive, pass) },
             );
             if serving.is_err() {
-                with.listener.close(rt, Err(EarlyEnd::Memory));
+                with.ending.close(rt, Err(EarlyEnd::Memory));
             }
             let mut passes = serve_clients(rt, with, archive, rest);
             let pass = match serving {
@@ -115,23 +117,25 @@ fn serve_beside<
     )
 }
 
-/// Serves clients by a pass until the server ends: the pass.
+/// Serves clients of a port by a pass until the server ends: the pass.
 fn serve_by<D: Disk + Drop, A: Naming, R: Wait + Clock, T: Reporter>(
     rt: &R,
     with: &Connections<T>,
+    port: &Port,
     archive: &SharedArchive<D, A>,
     pass: Pass<Made>,
 ) -> Pass<Made>
     requires { pass.table ≡ A.table }
     ensures { IsBack pass result }
 {
-    serve_at::<D, A, Brand, R, T>(rt, with, archive, pass)
+    serve_at::<D, A, Brand, R, T>(rt, with, port, archive, pass)
 }
 
-/// Serves clients by the pass of a place.
+/// Serves clients of a port by the pass of a place.
 fn serve_at<'x, D: Disk + Drop, A: Naming, P: Place, R: Wait + Clock, T: Reporter>(
     rt: &'x R,
     with: &'x Connections<T>,
+    port: &'x Port,
     archive: &'x SharedArchive<D, A>,
     pass: Pass<Made>,
 ) -> Pass<Made>
@@ -140,9 +144,20 @@ fn serve_at<'x, D: Disk + Drop, A: Naming, P: Place, R: Wait + Clock, T: Reporte
     ensures table { result.table ≡ A.table }
     ensures number { result.number ≡ P.number }
 {
-    let noted = NotedArchive { rt, archive, with };
+    let only_reads = port.options.only_reads;
+    let noted = NotedArchive {
+        rt,
+        archive,
+        with,
+        settles: !only_reads,
+    };
     let controller = Controller::<D, A, P, R, T>::new(with.alloc, noted, pass);
-    serve_connections(rt, with, controller).into_pass()
+    if only_reads {
+        let consumer = serve_connections(rt, with, port, Consumer::new(controller));
+        consumer.into_server().into_pass()
+    } else {
+        serve_connections(rt, with, port, controller).into_pass()
+    }
 }
 
 /// Serves so many clients at a time until the server ends, without an archive. The server ends by `Memory` if a thread can't
@@ -153,12 +168,13 @@ pub(crate) fn serve_unopened<R: Threads + Wait + Clock + Sync, T: Reporter + Dro
     places: &Places,
 ) {
     thread::scope(thread::scope_env(), rt, |scope| {
-        for _ in 1..places.count {
-            let serving = scope.spawn(move || serve_connections(rt, with, Unopened));
+        for thread in 1..places.count {
+            let port = with.port_of(thread);
+            let serving = scope.spawn(move || serve_connections(rt, with, port, Unopened));
             if serving.is_err() {
-                with.listener.close(rt, Err(EarlyEnd::Memory));
+                with.ending.close(rt, Err(EarlyEnd::Memory));
             }
         }
-        let Unopened = serve_connections(rt, with, Unopened);
+        let Unopened = serve_connections(rt, with, &with.control, Unopened);
     });
 }

@@ -5,8 +5,9 @@ ghost use Rattle.tool_core.specs.Answering.{AnswersFirstLines, AnswersLines, End
 ghost use Rattle.tool_core.specs.Transcript.{WritesText};
 
 use crate::client::{Client, ClientReader, ClientWriter, is_timed};
+use crate::consumer_reader::ConsumerReader;
 use crate::line_reader::LineReader;
-use crate::listener::SharedListener;
+use crate::listener::{Ending, SharedListener};
 use crate::options::ServeOptions;
 use crate::place::Places;
 use crate::script_reader::ScriptReader;
@@ -47,22 +48,49 @@ pub(crate) struct ClientOptions {
     pub closes_replays: bool,
     /// Whether one client is served at a time. Its merge goes on in the next connection.
     pub is_single: bool,
+    /// Whether clients only read: no other line is answered, and `quit` ends their own connection alone.
+    pub only_reads: bool,
 }
 
 impl ClientOptions {
-    /// That of these options, for so many clients.
+    /// Those of the control port by these options, for so many clients.
     pub fn of(options: &ServeOptions<'_>, places: &Places) -> ClientOptions
         ensures closes { IsTrue result.closes_replays ↔ IsSome options.now.clients }
-        ensures single { IsTrue result.is_single ↔ (places.now.count ≡ 1) }
+        ensures single { IsTrue result.is_single ↔ (places.now.clients ≡ 1) }
         ensures images { IsTrue result.lists_images ↔ IsSome options.now.window }
+        ensures reads { result.only_reads ≡ false }
     {
         ClientOptions {
             idle: Duration::from_secs(options.idle_seconds),
             lists_images: options.window.is_some(),
             closes_replays: options.clients.is_some(),
-            is_single: places.count == 1,
+            is_single: places.clients == 1,
+            only_reads: false,
         }
     }
+
+    /// Those of the port of consumers by these options.
+    pub fn of_consumers(options: &ServeOptions<'_>) -> ClientOptions
+        ensures closes { result.closes_replays ≡ true }
+        ensures single { result.is_single ≡ false }
+        ensures images { IsTrue result.lists_images ↔ IsSome options.now.window }
+        ensures reads { result.only_reads ≡ true }
+    {
+        ClientOptions {
+            idle: Duration::from_secs(options.idle_seconds),
+            lists_images: options.window.is_some(),
+            closes_replays: true,
+            is_single: false,
+            only_reads: true,
+        }
+    }
+}
+
+/// A port that lines come to, and how its clients are served.
+#[derive(Drop)]
+pub(crate) struct Port {
+    pub listener: SharedListener,
+    pub options: ClientOptions,
 }
 
 /// What the threads that serve connections share.
@@ -72,8 +100,23 @@ pub(crate) struct Connections<T> {
     pub shared: Shared<T>,
     /// Where datagrams come to.
     pub socket: UdpSocket,
-    pub listener: SharedListener,
-    pub options: ClientOptions,
+    pub ending: Ending,
+    /// Where control lines come to.
+    pub control: Port,
+    /// Where lines of clients come to that only read, if such clients are served.
+    pub consumers: Option<Port>,
+    /// How many clients are served at the control port at a time.
+    pub clients: usize,
+}
+
+impl<T> Connections<T> {
+    /// The port whose connections a thread of this number serves: those of the first numbers serve the control port's.
+    pub fn port_of(&self, thread: usize) -> &Port {
+        match &self.consumers {
+            Some(port) if thread >= self.clients => port,
+            _ => &self.control,
+        }
+    }
 }
 
 /// Sees whether a line quits.
@@ -90,34 +133,37 @@ impl Observer for QuitObserver {
     }
 }
 
-/// Serves connections, one after another, until the server ends. It ends if a line quits. If one client is served at a time,
-/// the lines of each go on from the merge that those before it left.
+/// Serves connections of a port, one after another, until the server ends. It ends if a line at the control port quits. If one
+/// client is served at a time, the lines of each go on from the merge that those before it left.
 pub(crate) fn serve_connections<R: Wait + Clock, T: Reporter, S: Server + Drop>(
     rt: &R,
     with: &Connections<T>,
+    port: &Port,
     server: S,
 ) -> S {
     let mut state = ScriptState::new(server);
     let mut waiting = None;
     for _ in rt.forever() {
-        let Some(stream) = with.listener.next(rt, &with.shared, waiting) else {
+        let taken = port.listener.next(rt, &with.shared, &with.ending, waiting);
+        let Some(stream) = taken else {
             return state.into_archive();
         };
-        let (after, next) = serve_stream(rt, with, stream, state);
+        let (after, next) = serve_stream(rt, with, port, stream, state);
         state = after;
         waiting = next;
         if waiting.is_none() {
-            with.listener.leave();
+            port.listener.leave();
         }
     }
     unreachable!()
 }
 
-/// Serves a connection that was taken, and ends serving if a line quits. The connection that its place goes to, if it was
-/// idle for too long and that one waits.
+/// Serves a connection that was taken, and ends serving if a line quits, but for one of a client that only reads. The connection
+/// that its place goes to, if it was idle for too long and that one waits.
 fn serve_stream<R: Wait + Clock, T: Reporter, S: Server + Drop>(
     rt: &R,
     with: &Connections<T>,
+    port: &Port,
     stream: TcpStream,
     state: ScriptState<S>,
 ) -> (ScriptState<S>, Option<TcpStream>) {
@@ -125,15 +171,15 @@ fn serve_stream<R: Wait + Clock, T: Reporter, S: Server + Drop>(
     if !is_timed(&stream) {
         return (state, None);
     }
-    let client = Client::new(rt, &with.shared, &with.listener, with.options.idle, stream);
-    let (mut state, has_quit) = serve_client(with.alloc, &client, &with.options, state);
-    if has_quit {
-        with.listener.close(rt, Ok(()));
+    let client = Client::new(rt, with, port, stream);
+    let (mut state, has_quit) = serve_client(with.alloc, &client, &port.options, state);
+    if has_quit && !port.options.only_reads {
+        with.ending.close(rt, Ok(()));
     }
     state
         .archive
-        .end_connection(with.alloc, with.options.closes_replays);
-    if !with.options.is_single {
+        .end_connection(with.alloc, port.options.closes_replays);
+    if !port.options.is_single {
         state.merge = None;
     }
     (state, client.take_next())
@@ -150,23 +196,42 @@ fn serve_client<R: Wait + Clock, T: Reporter, S: Answerer>(
     let Ok(mut writer) = BufWriter::with_capacity(alloc, WRITTEN_AT_ONCE, writer) else {
         return (state, false);
     };
-    if options.lists_images {
-        return serve_scripts(alloc, client, options, &mut writer, state);
-    }
     let reader = ClientReader(client);
-    let (state, _, has_quit) = answer_script(alloc, client, options, reader, &mut writer, state);
-    (state, has_quit)
+    if !options.only_reads {
+        return serve_reader(alloc, client, options, reader, &mut writer, state);
+    }
+    match ConsumerReader::new(alloc, reader) {
+        Ok(reader) => serve_reader(alloc, client, options, reader, &mut writer, state),
+        Err(_) => (state, false),
+    }
 }
 
-/// Answers the lines of a client as `serve_client`, and a line `images` between them by the images.
-fn serve_scripts<R: Wait + Clock, T: Reporter, W: Write, S: Answerer>(
+/// Answers the lines that a reader gives of a client, as `serve_client`.
+fn serve_reader<R: Wait + Clock, T: Reporter, I: Read + Drop, W: Write, S: Answerer>(
     alloc: Global,
     client: &Client<'_, R, T>,
     options: &ClientOptions,
+    reader: I,
     writer: &mut W,
     state: ScriptState<S>,
 ) -> (ScriptState<S>, bool) {
-    let Ok(mut reader) = ScriptReader::new(alloc, ClientReader(client)) else {
+    if options.lists_images {
+        return serve_scripts(alloc, client, options, reader, writer, state);
+    }
+    let (state, _, has_quit) = answer_script(alloc, client, options, reader, writer, state);
+    (state, has_quit)
+}
+
+/// Answers the lines of a client as `serve_reader`, and a line `images` between them by the images.
+fn serve_scripts<R: Wait + Clock, T: Reporter, I: Read + Drop, W: Write, S: Answerer>(
+    alloc: Global,
+    client: &Client<'_, R, T>,
+    options: &ClientOptions,
+    reader: I,
+    writer: &mut W,
+    state: ScriptState<S>,
+) -> (ScriptState<S>, bool) {
+    let Ok(mut reader) = ScriptReader::new(alloc, reader) else {
         return (state, false);
     };
     let mut state = state;

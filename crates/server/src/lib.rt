@@ -5,6 +5,9 @@ mod answering;
 mod client;
 mod clients;
 mod connections;
+mod consumer;
+mod consumer_reader;
+mod ends;
 mod line_reader;
 mod listener;
 mod options;
@@ -14,6 +17,7 @@ mod served;
 mod serving;
 mod unopened;
 
+pub use ends::Ends;
 pub use options::{IDLE_SECONDS, SEGMENT_LENGTH, SETTLE_EVERY, ServeOptions};
 pub use served::{Served, Stuck};
 pub use server_state::{

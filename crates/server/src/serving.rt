@@ -9,10 +9,11 @@ ghost use Rattle.server_recorder.specs.Seats.{AreAllPasses, AreClientPasses};
 ghost use Rattle.server.specs.Serving.{EndsHistory, EndsOrLacks, EndsUpTo, IsServed, IsServedAs, IsServedUpTo};
 
 use crate::clients::{serve_clients, serve_unopened};
-use crate::connections::{ClientOptions, Connections};
-use crate::listener::SharedListener;
+use crate::connections::{ClientOptions, Connections, Port};
+use crate::ends::Ends;
+use crate::listener::{Ending, SharedListener};
 use crate::options::ServeOptions;
-use crate::place::Places;
+use crate::place::{CONSUMERS, Places};
 use crate::served::{Served, stuck_by, unopened_stop};
 use archive_lock::{Closed, Made, Naming, SharedArchive};
 use call_history::{Opened, Pass};
@@ -104,7 +105,12 @@ pub fn serve_on<R: Threads + Wait + Clock + Sync, D: Disk + Drop + Send>(
         IsServedUpTo (D.life disk) (D.life (disk_of fault)) (early_end_of fault)) }
 {
     let options = ServeOptions::new();
-    match serve_with(rt, alloc, listener, socket, disk, &options, Unreported) {
+    let ends = Ends {
+        control: listener,
+        consumers: None,
+        datagrams: socket,
+    };
+    match serve_with(rt, alloc, ends, disk, &options, Unreported) {
         Ok(served) => Ok(served.disk),
         Err(fault) => Err(fault),
     }
@@ -115,8 +121,8 @@ pub fn serve_on<R: Threads + Wait + Clock + Sync, D: Disk + Drop + Send>(
 /// the last of the calls left it, which are one legal history of the passes of 64 seats and of the clients that are served at
 /// a time.
 ///
-/// Three threads and one for each further client: the caller's answers the lines of connections, one after another, and so
-/// does each of those; one receives datagrams, and sends a NAK frame after each that its image doesn't refuse while something
+/// Three threads and one for each further client, and for each client that only reads: the caller's answers the lines of
+/// connections, one after another, and so does each of those; one receives datagrams, and sends a NAK frame after each that its image doesn't refuse while something
 /// is missing; one writes and settles blocks of images that recorder sessions have. docs/SERVING.md.
 ///
 /// A strict server ends by itself once its archive can record nothing: it can't be opened, a write has failed, or its history is
@@ -132,8 +138,7 @@ pub fn serve_with<
 >(
     rt: &R,
     alloc: Global,
-    listener: TcpListener,
-    socket: UdpSocket,
+    ends: Ends,
     disk: D,
     options: &ServeOptions<'_>,
     reporter: T,
@@ -154,14 +159,8 @@ pub fn serve_with<
         Ok(found) => found,
         Err(disk) => return Err(ScriptFault::Memory(disk)),
     };
-    let places = Places::of(options.clients);
-    let lines = Connections {
-        alloc,
-        shared,
-        socket,
-        listener: SharedListener::new(rt, listener, &places),
-        options: ClientOptions::of(options, &places),
-    };
+    let places = Places::of(options.clients, ends.consumers.is_some());
+    let lines = connections_of(rt, alloc, shared, ends, options, &places);
     let serving = Serving {
         rt,
         alloc,
@@ -178,6 +177,38 @@ pub fn serve_with<
     let (served, end) = serve_archive(&serving, tools, seat_room, archive, beginning);
     lines.shared.report_end();
     handed_back(served, end)
+}
+
+/// What the threads that serve connections share, for so many clients at these ends.
+fn connections_of<R: Wait, T: Reporter>(
+    rt: &R,
+    alloc: Global,
+    shared: Shared<T>,
+    ends: Ends,
+    options: &ServeOptions<'_>,
+    places: &Places,
+) -> Connections<T> {
+    let ending = Ending::new();
+    let control = Port {
+        listener: SharedListener::new(rt, ends.control, places.clients, &ending),
+        options: ClientOptions::of(options, places),
+    };
+    let consumers = match ends.consumers {
+        Some(listener) => Some(Port {
+            listener: SharedListener::new(rt, listener, CONSUMERS, &ending),
+            options: ClientOptions::of_consumers(options),
+        }),
+        None => None,
+    };
+    Connections {
+        alloc,
+        shared,
+        socket: ends.datagrams,
+        ending,
+        control,
+        consumers,
+        clients: places.clients,
+    }
 }
 
 /// What the threads of a server know of its options.
@@ -231,9 +262,17 @@ fn handed_back<D>(served: Served<D>, end: Result<(), EarlyEnd>) -> Result<Served
 
 /// Reports where the server is, and how its archive began.
 fn begin<R, T: Reporter>(with: &Serving<'_, R, T>, beginning: Beginning) {
-    let ends = (with.lines.listener.address(), with.socket.local_addr());
+    let ends = (
+        with.lines.control.listener.address(),
+        with.socket.local_addr(),
+    );
     if let (Ok(control), Ok(receive)) = ends {
         with.shared.report(&Happening::Bound { control, receive });
+    }
+    if let Some(port) = &with.lines.consumers {
+        if let Ok(consumers) = port.listener.address() {
+            with.shared.report(&Happening::BoundConsumers { consumers });
+        }
     }
     with.shared
         .report(&Happening::Archive(ArchiveNews::Began(beginning)));
@@ -370,7 +409,7 @@ fn serve_shared<
             let is_whole = receiver.join(*rt);
             (
                 recorder.join(*rt).into_passes(clients),
-                ended_by(lines.listener.end(*rt, shared), is_whole),
+                ended_by(lines.ending.end(*rt, shared), is_whole),
             )
         },
     )
@@ -397,7 +436,7 @@ fn serve_closed<R: Threads + Wait + Clock + Sync, T: Reporter + Drop + Send + Sy
         serve_unopened(with.rt, with.lines, &with.places);
         with.shared.end(with.socket);
         ended_by(
-            with.lines.listener.end(with.rt, with.shared),
+            with.lines.ending.end(with.rt, with.shared),
             receiver.join(with.rt),
         )
     })

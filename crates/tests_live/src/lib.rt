@@ -9,6 +9,8 @@ mod archives;
 #[cfg(test)]
 mod client;
 #[cfg(test)]
+mod consumers;
+#[cfg(test)]
 mod conversations;
 #[cfg(test)]
 mod crowds;
