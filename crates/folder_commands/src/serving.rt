@@ -196,10 +196,10 @@ fn consumers_end(words: &ServeWords<'_>) -> Result<Option<(Ipv4Addr, u16)>, Exit
     ensures port { IfOk result (λ end. option_map (λ e. e.1) end ≡ words.now.consumers) }
 {
     let Some(port) = words.consumers else {
-        return match words.consumers_on {
-            None => Ok(None),
-            Some(_) => Err(misworded(UsageError::NeedsConsumers)),
-        };
+        if words.consumers_on.is_some() {
+            return Err(misworded(UsageError::NeedsConsumers));
+        }
+        return Ok(None);
     };
     let address = consumers_address(words)?;
     Ok(Some((address, port_of(port)?)))
