@@ -3,6 +3,7 @@
 ghost use Rattle.std.specs.Prelude.{◌≡◌};
 ghost use Rattle.archive_lock.specs.Standing.{standing_of};
 
+use archive_model::BankVersion;
 use control_core::Desk;
 
 /// Where an archive stands: it records nothing more once a write of it has failed, or once its history is full.
@@ -14,6 +15,10 @@ pub struct Standing {
     pub counted: u64,
     /// How many may count.
     pub limit: u32,
+    /// How many recordings are active.
+    pub active: u64,
+    /// The version of the bank of the catalogue that is in use.
+    pub version: BankVersion,
 }
 
 /// Where a desk stands.
@@ -24,5 +29,7 @@ pub(crate) fn standing_of(desk: &Desk) -> Standing
         is_broken: desk.is_broken(),
         counted: desk.counted(),
         limit: desk.limit(),
+        active: desk.active_count() as u64,
+        version: desk.version(),
     }
 }

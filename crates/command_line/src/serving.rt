@@ -3,9 +3,9 @@
 ghost use Rattle.std.specs.Prelude.{◌≡◌, ℤ, IfOk, List, MatchOption, codes, false, map};
 ghost use Rattle.clap.specs.Words.{found_of, rows_of, rule_of};
 ghost use Rattle.command_line.specs.declared.serving.ServeWords.{ServeWords};
-ghost use Rattle.command_line.specs.CommandLine.{AreNumbers, AreStreams, IsCommand, IsServing, address_option, clients_option, consumers_address_option, consumers_option, consumers_app, idle_option, metrics_option, port_option, segment_option, serve_app, settle_option, stream_option, window_option, word_app};
+ghost use Rattle.command_line.specs.CommandLine.{AreNumbers, AreStreams, IsCommand, IsServing, address_option, clients_option, consumers_address_option, consumers_option, consumers_app, idle_option, metrics_option, name_option, port_option, segment_option, serve_app, settle_option, stream_option, window_option, word_app};
 
-use crate::command::{FOLDER_HELP, flag, required};
+use crate::command::{CHECKPOINTS_HELP, FOLDER_HELP, flag, required, waiting};
 use clap::builder::ValueParser;
 use clap::{Arg, ArgAction, ArgMatches, Command, value_parser};
 use std::alloc::{AllocError, Global};
@@ -44,6 +44,18 @@ pub struct ServeWords<'a> {
     pub is_strict: bool,
     /// The file that the metrics are written to each second, as it was given. None: there is no such file.
     pub metrics: Option<&'a str>,
+    /// Whether checkpoints are asked for.
+    pub checkpoints: bool,
+    /// Whether a word asks for none.
+    pub no_checkpoints: bool,
+    /// The name of this recorder, which its lines on standard error begin with, as it was given. None: they have none.
+    pub name: Option<&'a str>,
+    /// Whether each line on standard error begins with its time and a level.
+    pub logs_times: bool,
+    /// Whether a folder without an archive is refused.
+    pub no_create: bool,
+    /// Seconds for which the folder is waited for while it is in use. None: it is not waited for.
+    pub wait: Option<u32>,
 }
 
 const SERVE_HELP: &str =
@@ -75,7 +87,7 @@ const WINDOW_HELP: &str =
 
 const CLIENTS_HELP: &str =
     "How many clients are served at a time, from 1 to 64; their replays are closed when they leave. \
-Without it one, whose replays stay open";
+Without it one, whose replays stay open: a client that polls without a pause then keeps all others out";
 
 const CONSUMERS_HELP: &str =
     "A TCP port for clients that only read, 64 at a time: it answers list, find, positions, source, images, follow and quit";
@@ -100,6 +112,18 @@ full. Without it the server stays up, and answers lines";
 const METRICS_HELP: &str =
     "A file that metrics are written to each second, in the text format of Prometheus, as a textfile collector reads it. It \
 is written beside its place as <file>.part, and then renamed";
+
+const NO_CHECKPOINTS_HELP: &str =
+    "Makes no checkpoints, which --aeron makes without being asked. It needs --aeron";
+
+const NAME_HELP: &str =
+    "The name of this recorder, 1 to 64 of the characters A-Z, a-z, 0-9, _, . and -: lines on standard error begin with it";
+
+const TIMES_HELP: &str =
+    "Begins each line on standard error with its time in UTC, and `error` or `info`";
+
+const NO_CREATE_HELP: &str =
+    "Refuses a folder without an archive, and makes nothing in it. Without it an empty folder gets a new archive";
 
 /// A port of `serve`, which has to be given.
 fn port<'a>(alloc: Global, name: &'a str, help: &'a str) -> Arg<'a>
@@ -235,6 +259,17 @@ fn metrics<'a>(alloc: Global) -> Arg<'a>
         .help(METRICS_HELP)
 }
 
+/// The option `--name`, a text.
+fn name<'a>(alloc: Global) -> Arg<'a>
+    ensures rule { rule_of result ≡ name_option }
+    ensures local { result.global ≡ false }
+{
+    Arg::new(alloc, "name")
+        .long("name")
+        .value_name("text")
+        .help(NAME_HELP)
+}
+
 /// The command `serve` with its folder.
 fn serve_folder<'a>(alloc: Global) -> Result<Command<'a>, AllocError>
     ensures { IfOk result (IsCommand (word_app (codes "serve") (codes "folder"))) }
@@ -264,7 +299,13 @@ fn serve<'a>(alloc: Global) -> Result<Command<'a>, AllocError>
         .arg(segment_length(alloc))?
         .arg(flag(alloc, "quiet", QUIET_HELP))?
         .arg(flag(alloc, "strict", STRICT_HELP))?
-        .arg(metrics(alloc))
+        .arg(metrics(alloc))?
+        .arg(flag(alloc, "checkpoints", CHECKPOINTS_HELP))?
+        .arg(flag(alloc, "no-checkpoints", NO_CHECKPOINTS_HELP))?
+        .arg(name(alloc))?
+        .arg(flag(alloc, "log-times", TIMES_HELP))?
+        .arg(flag(alloc, "no-create", NO_CREATE_HELP))?
+        .arg(waiting(alloc))
 }
 
 /// The command `serve`.
@@ -340,6 +381,12 @@ fn words_of<'a>(own: &ArgMatches<'a>, streams: Vec<i32>) -> Option<ServeWords<'a
     let is_quiet = own.get_flag("quiet");
     let is_strict = own.get_flag("strict");
     let metrics = own.get_str("metrics");
+    let checkpoints = own.get_flag("checkpoints");
+    let no_checkpoints = own.get_flag("no-checkpoints");
+    let name = own.get_str("name");
+    let logs_times = own.get_flag("log-times");
+    let no_create = own.get_flag("no-create");
+    let wait = own.get_one::<u32>("wait");
     Some(ServeWords {
         folder,
         control,
@@ -357,5 +404,11 @@ fn words_of<'a>(own: &ArgMatches<'a>, streams: Vec<i32>) -> Option<ServeWords<'a
         is_quiet,
         is_strict,
         metrics,
+        checkpoints,
+        no_checkpoints,
+        name,
+        logs_times,
+        no_create,
+        wait,
     })
 }

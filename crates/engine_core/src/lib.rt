@@ -25,5 +25,6 @@ mod write;
 pub use compacting::compact;
 pub use engine::{Engine, OpenRefusal};
 pub use replay_poll::Poll;
+pub use settle_all::unsettled_segments;
 pub use storage::Storage;
 pub use sweep::keeps_of;

@@ -12,7 +12,7 @@ ghost use Rattle.control_core.specs.Seats.{IsWriter};
 ghost use Rattle.control_core.specs.Turns.{session_in, settle_all_tests};
 ghost use Rattle.recording_reads.specs.Recording.{layout_of};
 ghost use Rattle.engine_core.specs.Catalogued.{KeepsFound, register_made};
-ghost use Rattle.engine_core.specs.Grouping.{IsGroup, MayRecord, entry_of_session, segment_of_session};
+ghost use Rattle.engine_core.specs.Grouping.{IsGroup, MayRecord, entry_of_session, segment_of_session, segments_each};
 ghost use Rattle.engine_core.specs.Making.{CommitsEntry};
 ghost use Rattle.engine_core.specs.Touching.{SettlesEach, WantsMemory};
 
@@ -90,6 +90,21 @@ impl<D: Disk> StoredArchive<D> {
             Err(refusal) => Err(failed(&mut self.desk, refusal)),
         }
     }
+}
+
+/// The segment files of what these recorder sessions wrote and did not settle, in their order; none for a number of no open session,
+/// and for one that wrote nothing. A settling of these sessions syncs these files. `NoMemory`. Costs the open sessions for
+/// each number. docs/STORAGE.md, "Segments".
+pub fn unsettled_segments(
+    alloc: Global,
+    desk: &Desk,
+    sessions: &[i64],
+) -> Result<Vec<FileId>, Refusal>
+    ensures segments { IfOk result (λ files. files.items ≡ segments_each desk.now.state sessions.now) }
+    ensures refused { IfErr result (λ refusal. refusal ≡ NoMemory) }
+{
+    let group = group_of(alloc, desk, sessions)?;
+    Ok(group.segments)
 }
 
 /// What these sessions wrote. `NoMemory`. Costs the open sessions for each number.

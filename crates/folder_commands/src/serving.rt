@@ -1,31 +1,38 @@
 //! The command `serve`: its words, its ports, and the archive of its folder. docs/SERVING.md, "How to run it".
 
-ghost use Rattle.std.specs.Prelude.{◌≡◌, ◌≤◌, ◌<◌, ◌↔◌, IfErr, IfOk, IfSome, IsSomeAnd, IsTrue, MatchResult, option_map};
+ghost use Rattle.std.specs.Prelude.{◌≡◌, ◌&&◌, ◌≤◌, ◌<◌, ◌↔◌, None, Some, Ok, true, false, IfErr, IfOk, IfSome, IsSomeAnd, IsTrue, MatchResult, option_map};
+ghost use Rattle.disk_core.specs.Life.{IsQuiet};
 ghost use Rattle.std.specs.IoError.{error_kind};
 ghost use Rattle.clap.specs.declared.error.ErrorKind.TheVariants.{ValueValidation};
 ghost use Rattle.host_disk.specs.Events.{Given};
 ghost use Rattle.host_disk.specs.HostDisk.{host_life};
-ghost use Rattle.folder_commands.specs.declared.status.Ending.TheVariants.{NoCommand, Failed};
+ghost use Rattle.folder_commands.specs.declared.status.Ending.TheVariants.{NoCommand, Failed, Refused};
 ghost use Rattle.folder_commands.specs.declared.why.Why.TheVariants.{Usage};
+ghost use Rattle.command_line.specs.declared.usage.UsageError.TheVariants.{Name};
+ghost use Rattle.frame_core.specs.declared.refusal.Refusal.TheVariants.{NotCatalogue};
 ghost use Rattle.folder_commands.specs.Folders.{ending_in};
-ghost use Rattle.folder_commands.specs.Left.{ends_with, leaves, sees};
-ghost use Rattle.folder_commands.specs.Serving.{AreOptions, HasBadOptions, HasBadSegments, HasBadStreams, HasBadWindow, HasNoConsumersEnd, HasNoEnds, HasSegments, HasWindow, IsAddressReason, IsNoAddress, IsReceiverWindow, IsRefusedPort, IsSegmentLength, IsUnbound, RecordsStreams, ServesFolder, ServesOver, segment_reason, streams_reason, window_reason};
+ghost use Rattle.folder_commands.specs.Left.{ends_with, leaves, left_life, sees};
+ghost use Rattle.folder_commands.specs.Serving.{AreOptions, AsksForCheckpoints, HasBadCheckpoints, HasBadName, HasBadOptions, HasBadSegments, HasBadStreams, HasBadWindow, HasNoConsumersEnd, HasNoEnds, HasSegments, HasWindow, IsAddressReason, HasCatalogue, HasName, IsNoAddress, IsReceiverWindow, IsSegmentLength, IsUnbound, LacksCatalogue, RecordsStreams, ServesFolder, ServesOver, checkpoints_reason, is_name_byte, is_recorder_name, segment_reason, streams_reason, window_reason};
 
-use crate::commands::disk_of;
 use crate::exit::Exit;
-use crate::hidden::warns_of_hidden;
+use crate::flushing::FolderFlusher;
+use crate::hidden::warns_of_hidden_by;
+use crate::log::Log;
 use crate::open_folder::closed;
 use crate::outcome::{Left, Outcome};
 use crate::reporting::{MetricsFile, ServeFaults, ServeReporter};
 use crate::status::Ending;
+use crate::waiting::disk_within;
 use crate::why::Why;
-use archive_commands::{Screen, Watched};
+use archive_commands::{Stop, Watched};
 use clap::error::ErrorKind;
 use command_line::{ServeWords, UsageError};
-use disk_core::Disk;
+use disk_core::{Disk, Fault, FileId};
 use flow_control::{INITIAL_WINDOW, LONGEST_WINDOW, SHORTEST_WINDOW};
+use frame_core::Refusal;
 use frame_core::limits::{FRAME_ALIGNMENT, MAX_TERM_LENGTH, MIN_TERM_LENGTH};
-use server::{Ends, Reporter, SEGMENT_LENGTH, ServeOptions, Served, serve_with};
+use host_disk::HostDisk;
+use server::{Ends, Flusher, Reporter, SEGMENT_LENGTH, ServeOptions, Served, serve_flushing};
 use std::alloc::Global;
 use std::io::{self, Eprint};
 use std::net::{Ipv4Addr, Net, TcpListener, TcpStream, UdpSocket};
@@ -35,12 +42,33 @@ use std::rt::Clock;
 use std::sync::Wait;
 use std::thread::Threads;
 
+/// Bytes of a recorder's name at most.
+const LONGEST_NAME: usize = 64;
 /// Streams that `--record` may name at most.
 const MOST_STREAMS: usize = 64;
 
+/// Where control lines, datagrams and lines of consumers come to.
+#[derive(Clone, Copy, Drop)]
+struct Addresses {
+    address: Ipv4Addr,
+    control: u16,
+    receive: u16,
+    /// None: no consumers are served.
+    consumers: Option<ConsumersEnd>,
+}
+
+/// Where lines of consumers come to.
+#[derive(Clone, Copy, Drop)]
+struct ConsumersEnd {
+    address: Ipv4Addr,
+    port: u16,
+}
+
 /// Serves the archive of a folder as the words ask for, until a line quits, and reports on standard error what happens. If the
-/// words are wrong, no port is bound and the folder is not opened. It is reported if the archive's catalogue may hide entries; a
-/// strict server does not open it then.
+/// words are wrong, no port is bound and the folder is not opened. The folder is opened before the ports are bound, so that a server
+/// which waits for the one before it finds its ports free. It is reported if the archive's catalogue may hide entries; a strict
+/// server does not open it then, and another one makes no checkpoint before its first line. With `--no-create` a folder without a
+/// catalogue is refused.
 pub(crate) fn serve<
     R: Threads + Wait + Clock + Eprint + Net<Listener = TcpListener, Stream = TcpStream> + Sync,
 >(net: &R, rt: HostRuntime, words: &ServeWords<'_>) -> Result<Left, Outcome>
@@ -48,10 +76,16 @@ pub(crate) fn serve<
     ensures { ServesFolder given words.now (sees result) (leaves result) (ends_with result) }
 {
     let options = options_of(words, receiver_id(&rt))?;
-    let ends = bound(net, words)?;
+    let addresses = addresses_of(words)?;
     let folder = Path::new(words.folder);
-    let disk = disk_of(rt, folder)?;
-    if let Some(looked) = warns_of_hidden(rt, folder, &Screen::new(net)) {
+    let disk = disk_within(rt, folder, words.wait)?;
+    let ends = match bound(net, &addresses) {
+        Ok(ends) => ends,
+        Err(exit) => return Err(unserved(exit, disk)),
+    };
+    let looked = warns_of_hidden_by(rt, folder, &log_of(net, words));
+    let options = begun(options, looked.is_none());
+    if let Some(looked) = looked {
         if words.is_strict {
             return Err(Outcome {
                 exit: Exit::reported(Ending::Hidden),
@@ -60,11 +94,87 @@ pub(crate) fn serve<
             });
         }
     }
-    let disk = Watched::new(disk, ServeFaults::new(rt.alloc(), net));
+    let disk = match with_catalogue(disk, words.no_create) {
+        Ok(disk) => disk,
+        Err((exit, disk)) => return Err(unserved(exit, disk)),
+    };
+    let disk = Watched::new(disk, ServeFaults::new(rt.alloc(), log_of(net, words)));
     let metrics = metrics_of(rt, words);
-    let reporter = ServeReporter::new(net, words.is_quiet, metrics);
-    let (disk, done) = serve_disk(net, rt.alloc(), ends, disk, &options, reporter);
+    let reporter = ServeReporter::new(log_of(net, words), words.is_quiet, metrics);
+    let flusher = FolderFlusher::new(log_of(net, words), rt, folder);
+    let (disk, done) = serve_disk(net, rt.alloc(), ends, disk, &options, reporter, &flusher);
     Outcome::leaving(done, closed(disk))
+}
+
+/// The options of a server that makes no checkpoint before its first line if its catalogue may hide entries.
+fn begun<'a>(options: ServeOptions<'a>, is_plain: bool) -> ServeOptions<'a>
+    ensures { result ≡ record options { begins_short = options.begins_short && is_plain } }
+{
+    ServeOptions {
+        idle_seconds: options.idle_seconds,
+        settle_every: options.settle_every,
+        window: options.window,
+        receiver_id: options.receiver_id,
+        clients: options.clients,
+        streams: options.streams,
+        segment_length: options.segment_length,
+        is_strict: options.is_strict,
+        is_measured: options.is_measured,
+        makes_checkpoints: options.makes_checkpoints,
+        begins_short: options.begins_short && is_plain,
+    }
+}
+
+/// A server ended so before it served the archive of a disk, which is closed.
+fn unserved(exit: Exit, disk: HostDisk) -> Outcome
+    ensures ending { result.exit.ending ≡ exit.ending }
+    ensures left { left_life result.left ≡ Some (host_life disk) }
+    ensures looked { result.looked ≡ None }
+{
+    Outcome {
+        exit,
+        left: Some(disk.close()),
+        looked: None,
+    }
+}
+
+/// The disk, if no catalogue is asked for, or there is one; else why not, and the disk.
+fn with_catalogue(disk: HostDisk, must_exist: bool) -> Result<HostDisk, (Exit, HostDisk)>
+    ensures there { IfOk result (λ back. IsQuiet (host_life disk) (host_life back)
+        × (IsTrue must_exist → HasCatalogue (host_life disk) (host_life back))) }
+    ensures lacks { IfErr result (λ found. IsTrue must_exist × IsQuiet (host_life disk) (host_life found.1)
+        × LacksCatalogue (host_life disk) (host_life found.1) found.0.ending) }
+{
+    if !must_exist {
+        return Ok(disk);
+    }
+    let mut disk = disk;
+    match has_catalogue(&mut disk) {
+        Ok(true) => Ok(disk),
+        Ok(false) => Err((
+            Exit {
+                ending: Ending::Refused(Refusal::NotCatalogue),
+                why: Why::NoArchive,
+            },
+            disk,
+        )),
+        Err(_) => {
+            let exit = Exit::stopped(Stop::Refused(Refusal::DeviceFault), disk.last_fault());
+            Err((exit, disk))
+        }
+    }
+}
+
+/// Whether a disk has a catalogue: a bank with bytes.
+fn has_catalogue<D: Disk>(disk: &mut D) -> Result<bool, Fault>
+    ensures quiet { IsQuiet (D.life disk.old) (D.life disk.new) }
+    ensures there { result ≡ Ok true → HasCatalogue (D.life disk.old) (D.life disk.new) }
+    ensures lacks { result ≡ Ok false → LacksCatalogue (D.life disk.old) (D.life disk.new) (Refused NotCatalogue) }
+{
+    if disk.len(FileId::BankA)? > 0 {
+        return Ok(true);
+    }
+    Ok(disk.len(FileId::BankB)? > 0)
 }
 
 /// A random number for a receiver, so that no other one is likely to have it. 0 if the system gives none.
@@ -76,13 +186,15 @@ fn receiver_id(source: &impl RandomSource) -> i64 {
     }
 }
 
-/// The options of a server with this receiver's number that the words ask for. Refused if they name a bad receiver window, or bad
-/// streams or segments.
+/// The options of a server with this receiver's number that the words ask for. Refused if they name a bad receiver window, bad
+/// streams or segments, or no name of a recorder.
 fn options_of<'a>(words: &'a ServeWords<'_>, receiver_id: i64) -> Result<ServeOptions<'a>, Exit>
     ensures { MatchResult result
         (AreOptions words.now receiver_id)
         (λ exit. HasBadOptions words.now × (exit.ending ≡ NoCommand ValueValidation)) }
 {
+    let makes_checkpoints = makes_checkpoints(words)?;
+    check_name(words)?;
     Ok(ServeOptions {
         idle_seconds: u64::from(words.idle),
         settle_every: u64::from(words.settle_every),
@@ -93,7 +205,41 @@ fn options_of<'a>(words: &'a ServeWords<'_>, receiver_id: i64) -> Result<ServeOp
         segment_length: segment_length_of(words)?,
         is_strict: words.is_strict,
         is_measured: words.metrics.is_some(),
+        makes_checkpoints,
+        begins_short: makes_checkpoints,
     })
+}
+
+/// Refused if the name that the words give is no name of a recorder.
+fn check_name(words: &ServeWords<'_>) -> Result<(), Exit>
+    ensures named { MatchResult result (λ _. HasName words.now) (λ exit.
+        HasBadName words.now × (exit.ending ≡ NoCommand ValueValidation)) }
+    ensures why { IfErr result (λ exit. exit.why ≡ Usage Name) }
+{
+    match words.name {
+        Some(name) if !is_recorder_name(name) => Err(misworded(UsageError::Name)),
+        _ => Ok(()),
+    }
+}
+
+/// Whether a text may be the name of a recorder.
+fn is_recorder_name(text: &str) -> bool
+    ensures { result ≡ is_recorder_name text.now }
+{
+    let bytes = text.as_bytes();
+    1 <= bytes.len() && bytes.len() <= LONGEST_NAME && bytes.iter().all(|byte| is_name_byte(*byte))
+}
+
+/// Whether a byte may stand in the name of a recorder: a letter or a digit of ASCII, `_`, `.` or `-`.
+fn is_name_byte(byte: u8) -> bool
+    ensures { result ≡ is_name_byte byte }
+{
+    (b'0' <= byte && byte <= b'9')
+        || (b'A' <= byte && byte <= b'Z')
+        || (b'a' <= byte && byte <= b'z')
+        || byte == b'_'
+        || byte == b'.'
+        || byte == b'-'
 }
 
 /// The greatest receiver window that the words ask for, in bytes; None without `--aeron`. Refused if `--window` comes without
@@ -160,6 +306,23 @@ fn is_segment_length(bytes: u32) -> bool
     MIN_TERM_LENGTH as u32 <= bytes && bytes <= MAX_TERM_LENGTH as u32 && bytes.is_power_of_two()
 }
 
+/// Whether the words ask for checkpoints: with `--aeron` unless `--no-checkpoints` comes with it, without it by `--checkpoints`.
+/// Refused if both words come, and if `--no-checkpoints` comes without `--aeron`.
+fn makes_checkpoints(words: &ServeWords<'_>) -> Result<bool, Exit>
+    ensures makes { MatchResult result
+        (AsksForCheckpoints words.now.is_aeron words.now.checkpoints words.now.no_checkpoints)
+        (λ exit. HasBadCheckpoints words.now × (exit.ending ≡ NoCommand ValueValidation)) }
+    ensures why { IfErr result (λ exit. exit.why ≡ Usage (checkpoints_reason words.now.checkpoints)) }
+{
+    if words.checkpoints && words.no_checkpoints {
+        return Err(misworded(UsageError::Checkpoints));
+    }
+    if words.no_checkpoints && !words.is_aeron {
+        return Err(misworded(UsageError::NoCheckpointsNeedsAeron));
+    }
+    Ok(words.checkpoints || words.is_aeron && !words.no_checkpoints)
+}
+
 /// The words are wrong, for this reason.
 pub(crate) fn misworded(error: UsageError) -> Exit
     ensures ending { result.ending ≡ NoCommand ValueValidation }
@@ -189,11 +352,11 @@ fn address_of(word: &str, none: UsageError, multicast: UsageError) -> Result<Ipv
 
 /// Where lines of consumers come to: the port of `--consumers`, at the address of `--consumers-on`, or at 127.0.0.1. None without
 /// a port. Refused if there is an address and no port, and if the words name no address or no port.
-fn consumers_end(words: &ServeWords<'_>) -> Result<Option<(Ipv4Addr, u16)>, Exit>
+fn consumers_end(words: &ServeWords<'_>) -> Result<Option<ConsumersEnd>, Exit>
     ensures end { MatchResult result
         (λ _. HasNoConsumersEnd words.now → ⊥)
         (λ exit. HasNoConsumersEnd words.now × (exit.ending ≡ NoCommand ValueValidation)) }
-    ensures port { IfOk result (λ end. option_map (λ e. e.1) end ≡ words.now.consumers) }
+    ensures port { IfOk result (λ end. option_map (λ e. e.port) end ≡ words.now.consumers) }
 {
     let Some(port) = words.consumers else {
         if words.consumers_on.is_some() {
@@ -201,8 +364,10 @@ fn consumers_end(words: &ServeWords<'_>) -> Result<Option<(Ipv4Addr, u16)>, Exit
         }
         return Ok(None);
     };
-    let address = consumers_address(words)?;
-    Ok(Some((address, port_of(port)?)))
+    Ok(Some(ConsumersEnd {
+        address: consumers_address(words)?,
+        port: port_of(port)?,
+    }))
 }
 
 /// The address that lines of consumers come to.
@@ -222,41 +387,51 @@ fn consumers_address(words: &ServeWords<'_>) -> Result<Ipv4Addr, Exit>
     }
 }
 
-/// Binds the ports: control lines to 127.0.0.1 alone, datagrams and lines of consumers each to an address. Refused if the words
-/// name no address or no port, and if the system refuses one.
-fn bound<R: Net<Listener = TcpListener, Stream = TcpStream>>(
-    net: &R,
-    words: &ServeWords<'_>,
-) -> Result<Ends, Exit>
+/// The addresses and the ports that the words name. Refused if they name none.
+fn addresses_of(words: &ServeWords<'_>) -> Result<Addresses, Exit>
     ensures { MatchResult result
         (λ _. HasNoEnds words.now → ⊥)
-        (λ exit. IsUnbound words.now exit.ending) }
+        (λ exit. HasNoEnds words.now × (exit.ending ≡ NoCommand ValueValidation)) }
 {
     let address = address_of(words.receive_on, UsageError::Address, UsageError::Multicast)?;
-    let (control, receive) = (port_of(words.control)?, port_of(words.receive)?);
-    let consumers = consumers_end(words)?;
-    let control = listener_at(net, Ipv4Addr::LOCALHOST, control)?;
-    let consumers = match consumers {
-        Some((address, port)) => Some(listener_at(net, address, port)?),
+    Ok(Addresses {
+        address,
+        control: port_of(words.control)?,
+        receive: port_of(words.receive)?,
+        consumers: consumers_end(words)?,
+    })
+}
+
+/// Binds the ports: control lines to 127.0.0.1 alone, datagrams and lines of consumers each to an address. Refused if the system
+/// refuses one.
+fn bound<R: Net<Listener = TcpListener, Stream = TcpStream>>(
+    net: &R,
+    addresses: &Addresses,
+) -> Result<Ends, Exit>
+    ensures { IfErr result (λ exit. IsUnbound exit.ending) }
+{
+    let control = listener_at(net, Ipv4Addr::LOCALHOST, addresses.control)?;
+    let consumers = match addresses.consumers {
+        Some(end) => Some(listener_at(net, end.address, end.port)?),
         None => None,
     };
-    match UdpSocket::bind(net, (address, receive)) {
+    match UdpSocket::bind(net, (addresses.address, addresses.receive)) {
         Ok(datagrams) => Ok(Ends {
             control,
             consumers,
             datagrams,
         }),
-        Err(error) => Err(unbound(receive, error)),
+        Err(error) => Err(unbound(addresses.receive, error)),
     }
 }
 
-/// Binds a port for connections to an address.
+/// Binds a port for connections to an address. Refused if the system refuses it.
 fn listener_at<R: Net<Listener = TcpListener, Stream = TcpStream>>(
     net: &R,
     address: Ipv4Addr,
     port: u16,
 ) -> Result<TcpListener, Exit>
-    ensures { IfErr result (λ exit. IsRefusedPort exit.ending) }
+    ensures { IfErr result (λ exit. IsUnbound exit.ending) }
 {
     match TcpListener::bind(net, (address, port)) {
         Ok(listener) => Ok(listener),
@@ -285,6 +460,11 @@ fn unbound(port: u16, error: io::Error) -> Exit
     }
 }
 
+/// Where the lines of a server go whose words these are.
+fn log_of<'a, R: Eprint + Clock>(net: &'a R, words: &ServeWords<'a>) -> Log<'a, R> {
+    Log::new(net, words.name, words.logs_times)
+}
+
 /// The metrics file that the words ask for.
 fn metrics_of<'a>(rt: HostRuntime, words: &ServeWords<'a>) -> Option<MetricsFile<'a>> {
     words.metrics.map(|name| MetricsFile::new(rt, name))
@@ -296,6 +476,7 @@ fn serve_disk<
     R: Threads + Wait + Clock + Sync,
     D: Disk + Drop + Send,
     T: Reporter + Drop + Send + Sync,
+    F: Flusher + Sync,
 >(
     net: &R,
     alloc: Global,
@@ -303,10 +484,12 @@ fn serve_disk<
     disk: D,
     options: &ServeOptions<'_>,
     reporter: T,
+    flusher: &F,
 ) -> (D, Result<(), Exit>)
     ensures { ServesOver options.now.is_strict (D.life disk) (D.life result.0) (ending_in result.1) }
 {
-    match serve_with(net, alloc, ends, disk, options, reporter) {
+    let served = serve_flushing(net, alloc, ends, disk, options, reporter, flusher);
+    match served {
         Ok(Served { disk, stop }) => match stop {
             None => (disk, Ok(())),
             Some(stop) => (disk, Err(Exit::reported(Ending::Stuck(stop)))),

@@ -85,6 +85,8 @@ abbrev pub history_families : ArchiveMeasures → List Family
 history_families a =
     gauge (codes "aeron_recorder_history_entries") (codes "Entries of the history that are used.") (decimal a.entries)
     ∷ gauge (codes "aeron_recorder_history_limit_entries") (codes "Entries that the history may have.") (decimal a.limit)
+    ∷ counter (codes "aeron_recorder_checkpoints_total") (codes "Checkpoints that were made.") a.checkpoints
+    ∷ counter (codes "aeron_recorder_checkpoints_refused_total") (codes "Checkpoints that were refused.") a.refused_checkpoints
     ∷ []
 
 abbrev pub recorder_families : RecorderMeasures → List Family

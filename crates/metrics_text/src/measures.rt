@@ -7,12 +7,16 @@ pub struct ArchiveMeasures {
     pub is_open: bool,
     /// Whether a device fault broke it: nothing is recorded until it is opened again.
     pub is_broken: bool,
-    /// Whether its history is full: nothing is recorded until a compaction.
+    /// Whether its history is full: nothing is recorded until it is made short.
     pub is_full: bool,
     /// Entries of its history that are used.
     pub entries: u64,
     /// Entries that its history may have.
     pub limit: u64,
+    /// Checkpoints that were made.
+    pub checkpoints: u64,
+    /// Checkpoints that were refused.
+    pub refused_checkpoints: u64,
 }
 
 /// What is measured of the thread that records.

@@ -141,6 +141,18 @@ fn put_history(out: &mut String, archive: &ArchiveMeasures) -> Result<(), AllocE
         "aeron_recorder_history_limit_entries",
         "Entries that the history may have.",
         archive.limit,
+    )?;
+    put_counter(
+        out,
+        "aeron_recorder_checkpoints_total",
+        "Checkpoints that were made.",
+        archive.checkpoints,
+    )?;
+    put_counter(
+        out,
+        "aeron_recorder_checkpoints_refused_total",
+        "Checkpoints that were refused.",
+        archive.refused_checkpoints,
     )
 }
 

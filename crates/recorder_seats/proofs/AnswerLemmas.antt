@@ -12,12 +12,12 @@ use Rattle.control_core.specs.declared.asked.Told.{Told}
 use Rattle.control_core.specs.declared.asked.Told.TheVariants as told
 use Rattle.control_core.specs.declared.callers.OpenReplay.{OpenReplay}
 use Rattle.control_core.specs.declared.event.Event.{Event}
-use Rattle.control_core.specs.declared.event.Event.TheVariants.{Settle}
+use Rattle.control_core.specs.declared.event.Event.TheVariants.{Settle, SettleAll}
 use Rattle.control_core.specs.Desk.{DeskState}
 use Rattle.control_core.specs.Exact.{asked_of, plain, plain_poll, poll_event}
-use Rattle.control_core.specs.Machine.{Breaks, Either, Ended, Ends, GivesFrames, Outcome, Passing, Polls, Run, Settles, Step, Unread, recording_of}
-use Rattle.control_core.specs.Turns.{open_replay_in, poll_tests, session_in, settle_tests}
-use Rattle.control_core.specs.Changes.{settled, settled_position}
+use Rattle.control_core.specs.Machine.{Breaks, Either, Ended, Ends, GivesFrames, Outcome, Passing, Polls, Run, Settles, SettlesAll, Step, Unread, recording_of}
+use Rattle.control_core.specs.Turns.{open_replay_in, poll_tests, session_in, settle_all_tests, settle_tests}
+use Rattle.control_core.specs.Changes.{positions_each, settled, settled_each, settled_position}
 use Rattle.engine_core.specs.Engine.{EngineState}
 use Rattle.call_history.specs.Values.{PassView}
 use Rattle.archive_lock.specs.declared.history.Made.{Made}
@@ -38,16 +38,16 @@ module _ (P : Outcome → Type 0) (refused : (r : Refusal) → P (Err r)) (d : D
 abbrev IsSettledTold : Told → Type 0
 IsSettledTold t = (position : ℤ) × (t ≡ told.Reply (replies.Settled position))
 
-settled_or_failed : (d n : DeskState) (settled : Outcome) (after : DeskState) (o : Outcome) → IfOk settled IsSettledTold → Either (Ended settled after) (Breaks d) o n → IfOk o IsSettledTold
-settled_or_failed d n settled after o is (inl x) = subst (λ (y : Outcome). IfOk y IsSettledTold) (sym x.0) is
-settled_or_failed d n settled after o is (inr (inl x)) = subst (λ (y : Outcome). IfOk y IsSettledTold) (sym x.0) tt
-settled_or_failed d n settled after o is (inr (inr x)) = subst (λ (y : Outcome). IfOk y IsSettledTold) (sym x.0) tt
+ended_or_failed : (Is : Told → Type 0) (d n : DeskState) (settled : Outcome) (after : DeskState) (o : Outcome) → IfOk settled Is → Either (Ended settled after) (Breaks d) o n → IfOk o Is
+ended_or_failed Is d n settled after o is (inl x) = subst (λ (y : Outcome). IfOk y Is) (sym x.0) is
+ended_or_failed Is d n settled after o is (inr (inl x)) = subst (λ (y : Outcome). IfOk y Is) (sym x.0) tt
+ended_or_failed Is d n settled after o is (inr (inr x)) = subst (λ (y : Outcome). IfOk y Is) (sym x.0) tt
 
 told_settled : (d n : DeskState) (session : ℤ) (o : Outcome) → Settles d session o n → IfOk o IsSettledTold
 told_settled d n session o h =
     let found = session_in d session in
     let answer : Outcome = Ok (told.Reply (replies.Settled (settled_position d found))) in
-    of_passing (λ o. IfOk o IsSettledTold) (λ r. tt) d (settle_tests d session) (Either (Ended answer (settled found d)) (Breaks d)) o n (settled_or_failed d n answer (settled found d) o (settled_position d found, refl)) checks h
+    of_passing (λ o. IfOk o IsSettledTold) (λ r. tt) d (settle_tests d session) (Either (Ended answer (settled found d)) (Breaks d)) o n (ended_or_failed IsSettledTold d n answer (settled found d) o (settled_position d found, refl)) checks h
 
 abbrev reply_told : Told → Reply
 reply_told (told.Reply reply) = reply
@@ -56,6 +56,22 @@ reply_told t = replies.Closed
 settled_reply : (outcome : Result Reply Refusal) → IfOk (plain outcome) IsSettledTold → IfOk outcome (λ reply. (position : ℤ) × (reply ≡ replies.Settled position))
 settled_reply (Ok reply) h = (h.0, ap reply_told h.1)
 settled_reply (Err refusal) h = tt
+
+-- ---- settlings of several sessions
+
+abbrev IsGroupTold : Told → Type 0
+IsGroupTold t = (positions : List (Option ℤ)) × (t ≡ told.Reply (replies.SettledAll positions))
+
+told_group : (d n : DeskState) (sessions : List ℤ) (o : Outcome) → SettlesAll d sessions o n → IfOk o IsGroupTold
+told_group d n sessions o h =
+    let positions = positions_each sessions d in
+    let answer : Outcome = Ok (told.Reply (replies.SettledAll positions)) in
+    let after = settled_each sessions d in
+    of_passing (λ o. IfOk o IsGroupTold) (λ r. tt) d (settle_all_tests d sessions) (Either (Ended answer after) (Breaks d)) o n (ended_or_failed IsGroupTold d n answer after o (positions, refl)) checks h
+
+group_reply : (outcome : Result Reply Refusal) → IfOk (plain outcome) IsGroupTold → IfOk outcome (λ reply. (positions : List (Option ℤ)) × (reply ≡ replies.SettledAll positions))
+group_reply (Ok reply) h = (h.0, ap reply_told h.1)
+group_reply (Err refusal) h = tt
 
 -- ---- polls
 
@@ -129,3 +145,11 @@ poll_told life opening p q number most limit (Ok reply) ends =
     let step = call_step life opening p q (poll_event number most limit) (Ok reply) (ends tt) in
     let from = (ends tt).call.from in
     polled_reply from (Ok reply) (told_polled step.0 step.1 number most limit (plain_poll from (Ok reply)) (poll_step step.0 step.1 from number most limit (Ok reply) step.2))
+
+-- a settling of several sessions is answered by positions, or refused
+pub group_told : {D : Type 0} (life : D → Life) (opening : EngineState) (p q : PassView Made) (sessions : List ℤ) (outcome : Result Reply Refusal) → (IsNoted outcome → EndsWithAnswer life opening p (SettleAll sessions) outcome q)
+    → IfOk outcome (λ reply. (positions : List (Option ℤ)) × (reply ≡ replies.SettledAll positions))
+group_told life opening p q sessions (Err refusal) ends = tt
+group_told life opening p q sessions (Ok reply) ends =
+    let step = call_step life opening p q (SettleAll sessions) (Ok reply) (ends tt) in
+    group_reply (Ok reply) (told_group step.0 step.1 sessions (plain (Ok reply)) step.2)

@@ -1,5 +1,5 @@
 -- What was seen of a recorder's slot is durable, and where frames end that were recorded up to it.
-use Rattle.std.proofs.Common.{◌≡◌, ◌<◌, ◌<ℤ◌, ◌≤ℤ◌, ◌+ℤ◌, ◌++◌, ◌∙◌, ℕ, zero, suc, ℤ, pos, Bool, true, false, cond, List, [], ◌∷◌, length, drop, refl, ap, subst, arith}
+use Rattle.std.proofs.Common.{◌≡◌, ◌<◌, ◌<ℤ◌, ◌≤ℤ◌, ◌+ℤ◌, ◌++◌, ◌∙◌, ℕ, zero, suc, ℤ, pos, Bool, true, false, cond, List, [], ◌∷◌, length, drop, inl, inr, refl, sym, ap, subst, arith}
 use Rattle.std.specs.Prelude.{Contains, eqb, slice_index_or}
 use Rattle.std.proofs.lemmas.Int.{ints}
 use Rattle.frame_core.specs.declared.frame.Frame.{Frame}
@@ -12,9 +12,10 @@ use Rattle.call_history.specs.Passes.{calls_by}
 use Rattle.call_history.specs.Values.{PassView}
 use Rattle.position_board.specs.Positions.{Published, position_at}
 use Rattle.archive_lock.specs.declared.history.Made.{Made}
-use Rattle.archive_lock.specs.Durable.{SettlingsStay}
+use Rattle.archive_lock.specs.Durable.{GroupsStay, SettlingsStay, StaysSettled}
 use Rattle.archive_lock.specs.History.{Member}
-use Rattle.recorder_seats.specs.HandedOut.{IsDurableTo}
+use Rattle.recorder_seats.specs.HandedOut.{IsDurableTo, IsGroupDurableTo}
+use Rattle.recorder_seats.specs.Bench.{IsSettledAmong, RaisedAreAmong, SettlesTo}
 use Rattle.recorder_seats.specs.Seat.{IsSettledIn, RaisedAreSettled}
 
 -- ---- among positions and calls
@@ -86,3 +87,32 @@ settled_is_durable opening now c members pass seen stay own s =
 pub seen_is_durable : (opening now : EngineState) (c : Content) (members : List Member) (pass : PassView Made) (writer : Published) (seen : ℤ) → SettlingsStay (archive_of opening c) members now → pass.own ≡ calls_by pass.number members
     → RaisedAreSettled pass writer → Contains writer.positions seen → position_at 0 writer.positions <ℤ seen → IsDurableTo (archive_of opening c) members now seen
 seen_is_durable opening now c members pass writer seen stay own raised among past = settled_is_durable opening now c members pass seen stay own (past_first (IsSettledIn pass.own) writer.positions among.0 seen raised among.1 among.2 past)
+
+-- ---- of a bench
+
+group_is_durable : (opening now : EngineState) (c : Content) (members : List Member) (pass : PassView Made) (seen : ℤ) → SettlingsStay (archive_of opening c) members now → GroupsStay (archive_of opening c) members now → pass.own ≡ calls_by pass.number members
+    → IsSettledAmong pass.own seen → IsGroupDurableTo (archive_of opening c) members now seen
+group_is_durable opening now c members pass seen stay together own s =
+    let among : Contains (calls_by pass.number members) s.call = subst (λ (calls : List Made). Contains calls s.call) own s.among in
+    let at = stands_in pass.number members s.call among.0 among.1 among.2 in
+    let settles : SettlesTo at.member.1 s.session seen = subst (λ (call : Made). SettlesTo call s.session seen) (sym at.is) s.settles in
+    let stays = stays_by at settles in
+    let settled = stays.settled in
+    record {
+      front = at.front;
+      call = at.member;
+      back = at.back;
+      among = at.among;
+      session = s.session;
+      settles = settles;
+      stays = stays;
+      frames = end_by seen stays.recording.descriptor.start_position stays.recording.frames (omega (arith, ints));
+    }
+  where
+    stays_by : (at : StandsIn members s.call) → SettlesTo at.member.1 s.session seen → StaysSettled (archive_of opening c) at.front at.member.1 at.back s.session seen now
+    stays_by at (inl alone) = stay at.front at.back at.member s.session seen at.among alone.0 alone.1
+    stays_by at (inr group) = together at.front at.back at.member group.0 group.1 s.session seen at.among group.2 group.3 group.4
+
+pub seen_of_bench : (opening now : EngineState) (c : Content) (members : List Member) (pass : PassView Made) (writer : Published) (seen : ℤ) → SettlingsStay (archive_of opening c) members now → GroupsStay (archive_of opening c) members now → pass.own ≡ calls_by pass.number members
+    → RaisedAreAmong pass writer → Contains writer.positions seen → position_at 0 writer.positions <ℤ seen → IsGroupDurableTo (archive_of opening c) members now seen
+seen_of_bench opening now c members pass writer seen stay together own raised among past = group_is_durable opening now c members pass seen stay together own (past_first (IsSettledAmong pass.own) writer.positions among.0 seen raised among.1 among.2 past)

@@ -38,7 +38,7 @@ in_longer calls more position is = record {
 pub still_settled : (p q : PassView Made) (w : Published) (calls : List Made) → q.own ≡ p.own ++ calls → RaisedAreSettled p w → RaisedAreSettled q w
 still_settled p q w calls own all = subst (λ (xs : List Made). Each (IsSettledIn xs) (raised_positions w)) (sym own) (each_of (IsSettledIn p.own) (IsSettledIn (p.own ++ calls)) (in_longer p.own calls) (raised_positions w) all)
 
-one_more : (P : ℤ → Type 0) (positions : List ℤ) (position : ℤ) → P position → Each P (drop 1 positions) → Each P (drop 1 (positions ++ position ∷ []))
+pub one_more : (P : ℤ → Type 0) (positions : List ℤ) (position : ℤ) → P position → Each P (drop 1 positions) → Each P (drop 1 (positions ++ position ∷ []))
 one_more P [] position is all = tt
 one_more P (x ∷ xs) position is all = each_append P xs (position ∷ []) all (is, tt)
 

@@ -7,6 +7,7 @@ use Rattle.control_core.specs.Exact.{Archive}
 use Rattle.engine_core.specs.Engine.{EngineState}
 use Rattle.archive_lock.specs.Durable.{StaysSettled}
 use Rattle.archive_lock.specs.History.{Member}
+use Rattle.recorder_seats.specs.Bench.{SettlesTo}
 
 -- A position is durable in an archive, by the calls of its history: one of them settled a session up to it, and that stays in
 -- every image that a crash may leave. Each frame that the recording had then ends at or before the position.
@@ -18,5 +19,17 @@ pub record IsDurableTo (a : Archive) (members : List Member) (now : EngineState)
   pub session : ℤ
   pub asked : call.1.asked ≡ Settle session
   pub answered : call.1.outcome ≡ Ok (Settled position)
+  pub stays : StaysSettled a front call.1 back session position now
+  pub frames : EndBy position (placed_frames stays.recording)
+
+-- A position is durable in an archive, by the calls of its history, as one that a bench hands out: one of them settled a session up
+-- to it, alone or with others.
+pub record IsGroupDurableTo (a : Archive) (members : List Member) (now : EngineState) (position : ℤ) : Type 0 where
+  pub front : List Member
+  pub call : Member
+  pub back : List Member
+  pub among : members ≡ front ++ call ∷ back
+  pub session : ℤ
+  pub settles : SettlesTo call.1 session position
   pub stays : StaysSettled a front call.1 back session position now
   pub frames : EndBy position (placed_frames stays.recording)

@@ -2,12 +2,14 @@
 //! datagrams come from.
 #![tactic(auto)]
 
+mod bench;
 mod bounded;
 mod datagram_end;
 pub mod laws;
 mod poll;
 mod seat;
 
+pub use bench::{BenchSeat, RecorderBench};
 pub use bounded::{BoundedReplayer, Turn};
 pub use datagram_end::DatagramEnd;
 pub use poll::polled;

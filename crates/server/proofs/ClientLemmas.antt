@@ -76,4 +76,4 @@ pub back_from : (k count : ℕ) (olds news : List (PassView Made)) → AreBack o
 back_from k count olds news back has = λ n from below. back_has n olds news back (has n from below)
 
 pub back_clients : (table : TableId) (count : ℕ) (olds news : List (PassView Made)) → AreBack olds news → AreClientPasses table count olds → AreClientPasses table count news
-back_clients table count olds news back are = (back_all table olds news back are.0, back_from 64 count olds news back are.1)
+back_clients table count olds news back are = (back_all table olds news back are.0, back_from 1 count olds news back are.1)

@@ -6,3 +6,5 @@ pub mod Clients
 pub mod Consumers
 pub mod ConsumerLines
 pub mod ImagesLine
+-- What a connection of another protocol begins with.
+pub mod FirstBytes

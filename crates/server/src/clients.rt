@@ -144,15 +144,20 @@ fn serve_at<'x, D: Disk + Drop, A: Naming, P: Place, R: Wait + Clock, T: Reporte
     ensures table { result.table ≡ A.table }
     ensures number { result.number ≡ P.number }
 {
-    let only_reads = port.options.only_reads;
+    let options = &port.options;
     let noted = NotedArchive {
         rt,
         archive,
         with,
-        settles: !only_reads,
+        settles: !options.only_reads,
     };
-    let controller = Controller::<D, A, P, R, T>::new(with.alloc, noted, pass);
-    if only_reads {
+    let controller = Controller::<D, A, P, R, T>::new(
+        with.alloc,
+        noted,
+        pass,
+        options.offers_checkpoints,
+    );
+    if options.only_reads {
         let consumer = serve_connections(rt, with, port, Consumer::new(controller));
         consumer.into_server().into_pass()
     } else {
@@ -167,14 +172,17 @@ pub(crate) fn serve_unopened<R: Threads + Wait + Clock + Sync, T: Reporter + Dro
     with: &Connections<T>,
     places: &Places,
 ) {
+    let unopened = Unopened {
+        offers_checkpoints: with.control.options.offers_checkpoints,
+    };
     thread::scope(thread::scope_env(), rt, |scope| {
         for thread in 1..places.count {
             let port = with.port_of(thread);
-            let serving = scope.spawn(move || serve_connections(rt, with, port, Unopened));
+            let serving = scope.spawn(move || serve_connections(rt, with, port, unopened));
             if serving.is_err() {
                 with.ending.close(rt, Err(EarlyEnd::Memory));
             }
         }
-        let Unopened = serve_connections(rt, with, &with.control, Unopened);
+        let _ = serve_connections(rt, with, &with.control, unopened);
     });
 }

@@ -1,11 +1,14 @@
 //! Connections, one after another, and their lines. docs/SERVING.md, "Control lines".
 
-ghost use Rattle.std.specs.Prelude.{◌≡◌, ◌↔◌, IfErr, IsSome, IsTrue, OnOk};
-ghost use Rattle.tool_core.specs.Answering.{AnswersFirstLines, AnswersLines, EndsEarly};
+ghost use Rattle.std.specs.Prelude.{◌≡◌, ◌↔◌, Err, IfErr, IsSome, IsTrue, OnOk};
+ghost use Rattle.std.specs.Io.KnownBytes.{Appends};
+ghost use Rattle.frame_core.specs.declared.refusal.Refusal.TheVariants.{BadLine};
+ghost use Rattle.tool_core.specs.Answering.{AnswersFirstLines, AnswersLines, EndsEarly, outcome_text};
 ghost use Rattle.tool_core.specs.Transcript.{WritesText};
 
 use crate::client::{Client, ClientReader, ClientWriter, is_timed};
 use crate::consumer_reader::ConsumerReader;
+use crate::first_bytes::FirstBytes;
 use crate::line_reader::LineReader;
 use crate::listener::{Ending, SharedListener};
 use crate::options::ServeOptions;
@@ -20,7 +23,7 @@ use std::net::{TcpStream, UdpSocket};
 use std::rt::Clock;
 use std::sync::Wait;
 use std::time::Duration;
-use tool_core::{Answerer, EarlyEnd, Observer, ScriptState, answer_lines};
+use tool_core::{Answerer, EarlyEnd, Observer, ScriptState, answer_lines, write_outcome};
 
 /// Bytes of replies that are written at once at most, but for longer texts.
 const WRITTEN_AT_ONCE: usize = 65_536;
@@ -48,6 +51,8 @@ pub(crate) struct ClientOptions {
     pub closes_replays: bool,
     /// Whether one client is served at a time. Its merge goes on in the next connection.
     pub is_single: bool,
+    /// Whether the line `checkpoint` is answered.
+    pub offers_checkpoints: bool,
     /// Whether clients only read: no other line is answered, and `quit` ends their own connection alone.
     pub only_reads: bool,
 }
@@ -58,6 +63,7 @@ impl ClientOptions {
         ensures closes { IsTrue result.closes_replays ↔ IsSome options.now.clients }
         ensures single { IsTrue result.is_single ↔ (places.now.clients ≡ 1) }
         ensures images { IsTrue result.lists_images ↔ IsSome options.now.window }
+        ensures checkpoints { result.offers_checkpoints ≡ options.now.makes_checkpoints }
         ensures reads { result.only_reads ≡ false }
     {
         ClientOptions {
@@ -65,6 +71,7 @@ impl ClientOptions {
             lists_images: options.window.is_some(),
             closes_replays: options.clients.is_some(),
             is_single: places.clients == 1,
+            offers_checkpoints: options.makes_checkpoints,
             only_reads: false,
         }
     }
@@ -74,6 +81,7 @@ impl ClientOptions {
         ensures closes { result.closes_replays ≡ true }
         ensures single { result.is_single ≡ false }
         ensures images { IsTrue result.lists_images ↔ IsSome options.now.window }
+        ensures checkpoints { result.offers_checkpoints ≡ false }
         ensures reads { result.only_reads ≡ true }
     {
         ClientOptions {
@@ -81,6 +89,7 @@ impl ClientOptions {
             lists_images: options.window.is_some(),
             closes_replays: true,
             is_single: false,
+            offers_checkpoints: false,
             only_reads: true,
         }
     }
@@ -185,7 +194,8 @@ fn serve_stream<R: Wait + Clock, T: Reporter, S: Server + Drop>(
     (state, client.take_next())
 }
 
-/// Answers the lines of a client until one quits, the client ends or fails, or is served no further. Whether one quit.
+/// Answers the lines of a client until one quits, the client ends or fails, or is served no further. Whether one quit. If its first
+/// bytes are another protocol's, that is answered, and nothing more of it is read.
 fn serve_client<R: Wait + Clock, T: Reporter, S: Answerer>(
     alloc: Global,
     client: &Client<'_, R, T>,
@@ -196,7 +206,15 @@ fn serve_client<R: Wait + Clock, T: Reporter, S: Answerer>(
     let Ok(mut writer) = BufWriter::with_capacity(alloc, WRITTEN_AT_ONCE, writer) else {
         return (state, false);
     };
-    let reader = ClientReader(client);
+    let mut reader = FirstBytes::new(ClientReader(client));
+    match reader.are_foreign() {
+        Ok(false) => {}
+        Ok(true) => {
+            let _ = refuse(alloc, &mut writer).is_ok() && writer.flush().is_ok();
+            return (state, false);
+        }
+        Err(_) => return (state, false),
+    }
     if !options.only_reads {
         return serve_reader(alloc, client, options, reader, &mut writer, state);
     }
@@ -276,6 +294,13 @@ fn answer_script<R: Wait + Clock, T: Reporter, I: Read + Drop, W: Write, S: Answ
     (state, outcome.is_ok(), has_quit)
 }
 
+/// Writes the answer to a connection of another protocol.
+fn refuse<W: Write>(alloc: Global, writer: &mut W) -> Result<(), EarlyEnd>
+    ensures { OnOk result (Appends (W.contents writer.old) (W.contents writer.new) (outcome_text (Err BadLine))) }
+{
+    write_outcome(alloc, &Err(Refusal::BadLine), writer)
+}
+
 /// Writes the answer to the line `images`. Whether it went out.
 fn put_images<R: Wait + Clock, T: Reporter, W: Write>(
     alloc: Global,
@@ -296,8 +321,8 @@ fn answer_client<R: Read + Drop, W: Write, S: Answerer>(
     state: ScriptState<S>,
 ) -> (ScriptState<S>, Result<(), EarlyEnd>, bool)
     ensures whole { OnOk result.1 (WritesText (R.remaining reader) (W.contents writer.old) (W.contents writer.new)
-        (AnswersLines S.ways state result.0)) }
-    ensures early { IfErr result.1 (λ end. EndsEarly end (AnswersFirstLines S.ways state result.0)
+        (AnswersLines S.ways S.checkpoints state result.0)) }
+    ensures early { IfErr result.1 (λ end. EndsEarly end (AnswersFirstLines S.ways S.checkpoints state result.0)
         (R.remaining reader) (W.contents writer.old) (W.contents writer.new)) }
 {
     let mut observer = QuitObserver { has_quit: false };

@@ -1,7 +1,7 @@
 //! Who answers the lines of clients that only read. docs/SERVING.md, "Consumers".
 
 ghost use Rattle.std.specs.Prelude.{◌≡◌};
-ghost use Rattle.tool_core.specs.Answering.{ways_seen};
+ghost use Rattle.tool_core.specs.Answering.{no_checkpoints, ways_seen};
 ghost use Rattle.server.specs.Consumers.{consumer_ways, is_question, only_asks};
 
 use crate::connections::Server;
@@ -9,7 +9,7 @@ use archive_model::Reply;
 use control_core::{Event, Request};
 use frame_core::{Geometry, Refusal};
 use std::alloc::Global;
-use tool_core::Answerer;
+use tool_core::{Answerer, CheckpointOutcome};
 
 /// Answers lines by a server, as far as they only ask. Any other is `BadLine`, and changes nothing.
 #[derive(Drop)]
@@ -36,6 +36,8 @@ impl<S> Consumer<S> {
 impl<S: Answerer> Answerer for Consumer<S> {
     ghost ways = { ways_seen (λ c. c.server) (consumer_ways S.ways) };
 
+    ghost checkpoints = { no_checkpoints };
+
     fn terms(&mut self, session: &i64) -> Result<Geometry, Refusal> {
         let _ = session;
         Err(Refusal::BadLine)
@@ -55,6 +57,14 @@ impl<S: Answerer> Answerer for Consumer<S> {
 
     fn compact(self, _alloc: Global) -> (Self, Result<Reply, Refusal>) {
         (self, Err(Refusal::BadLine))
+    }
+
+    fn offers_checkpoints(&self) -> bool {
+        false
+    }
+
+    fn prepare(&mut self, _alloc: Global) -> Option<CheckpointOutcome> {
+        None
     }
 }
 

@@ -8,6 +8,7 @@ mod connections;
 mod consumer;
 mod consumer_reader;
 mod ends;
+mod first_bytes;
 mod line_reader;
 mod listener;
 mod options;
@@ -20,8 +21,9 @@ mod unopened;
 pub use ends::Ends;
 pub use options::{IDLE_SECONDS, SEGMENT_LENGTH, SETTLE_EVERY, ServeOptions};
 pub use served::{Served, Stuck};
+pub use server_recorder::{Flusher, Unflushed};
 pub use server_state::{
-    ArchiveNews, ClientNews, Counted, Happening, ImageCounted, ImageNews, LineReporter, Reporter,
-    SessionNews, Unreported,
+    ArchiveNews, ClientNews, Counted, GapNews, Happening, HoleCause, ImageCounted, ImageNews,
+    LineReporter, Reporter, ResumeNews, SessionNews, Unreported,
 };
-pub use serving::{serve_on, serve_with};
+pub use serving::{serve_flushing, serve_on, serve_with};

@@ -22,7 +22,7 @@ use engine_core::Engine;
 use frame_core::limits::{LONGEST_DATAGRAM, MAX_WAITING_BLOCKS};
 use server_receiver::{Images, Receiver, Reception, Senders, TENDING};
 use server_recorder::{
-    OwnRecordings, Recording, SeatRoom, Seats, note_standing, parted, record_all,
+    Flusher, OwnRecordings, Recording, SeatRoom, Seats, Unflushed, begin_short, parted, record_all,
 };
 use server_state::{ArchiveNews, FedBlock, Happening, Reporter, Shared, SharedOptions, Unreported};
 use std::alloc::{AllocError, Global};
@@ -33,7 +33,6 @@ use std::rt::Clock;
 use std::sync::Wait;
 use std::thread::{self, Threads};
 use std::time::Duration;
-use stream_pairs::FED_SESSIONS;
 use tool_core::{Beginning, EarlyEnd, ScriptArchive, ScriptFault};
 
 /// Milliseconds after which a read of the socket ends, if the server is no receiver of the public standard.
@@ -41,7 +40,7 @@ const READ_TIMEOUT: u64 = 100;
 
 /// What all of a server works with: where datagrams come to, and what its threads share.
 #[derive(Drop)]
-struct Serving<'a, R, T> {
+struct Serving<'a, R, T, F> {
     rt: &'a R,
     alloc: Global,
     socket: &'a UdpSocket,
@@ -54,9 +53,13 @@ struct Serving<'a, R, T> {
     segment_length: i32,
     /// Whether the server ends once it can record nothing.
     is_strict: bool,
+    /// Whether a checkpoint is made before the first line.
+    begins_short: bool,
     shared: &'a Shared<T>,
     /// What the threads that serve clients share.
     lines: &'a Connections<T>,
+    /// What flushes segment files beside the archive.
+    flusher: &'a F,
 }
 
 /// What threads work with, beside what they share.
@@ -118,15 +121,18 @@ pub fn serve_on<R: Threads + Wait + Clock + Sync, D: Disk + Drop + Send>(
 
 /// Serves the archive of a disk until a line quits. If there is no file it is made, with a history of 1,048,576 entries;
 /// else it is opened, and if that is refused every line is `Broken` but those that need no archive. The disk comes back, as
-/// the last of the calls left it, which are one legal history of the passes of 64 seats and of the clients that are served at
-/// a time.
+/// the last of the calls left it, which are one legal history of the passes of the thread that records and of the clients that
+/// are served at a time.
 ///
-/// Three threads and one for each further client, and for each client that only reads: the caller's answers the lines of
-/// connections, one after another, and so does each of those; one receives datagrams, and sends a NAK frame after each that its image doesn't refuse while something
-/// is missing; one writes and settles blocks of images that recorder sessions have. docs/SERVING.md.
+/// Three threads, one for each further client, and 64 for clients that only read, if there is a listener for them: the caller's
+/// answers the lines of connections, one after another, and so does each of those; one receives datagrams, and sends a NAK frame
+/// after each that its image doesn't refuse while something is missing; one writes and settles blocks of images that recorder
+/// sessions have. docs/SERVING.md.
 ///
 /// A strict server ends by itself once its archive can record nothing: it can't be opened, a write has failed, or its history is
 /// full. What comes back says which, whatever ended the server.
+///
+/// A server that makes checkpoints makes its history short while recordings go on: docs/SERVING.md, "How long a history lasts".
 ///
 /// `Memory` if the opening finds none, or a thread can't be made; `Read` if the listener or the socket fails. A reply that
 /// finds no memory ends its connection. Costs memory for 64 images, each of which holds 1,048,576 bytes of its stream at
@@ -142,6 +148,32 @@ pub fn serve_with<
     disk: D,
     options: &ServeOptions<'_>,
     reporter: T,
+) -> Result<Served<D>, ScriptFault<D>>
+    ensures served { IfOk result (λ back. IsServed (D.life disk) (D.life back.disk)) }
+    ensures stop { IfOk result (λ back.
+        IsServedAs options.now.is_strict (D.life disk) (D.life back.disk) back.stop) }
+    ensures early { IfErr result (λ fault.
+        IsServedUpTo (D.life disk) (D.life (disk_of fault)) (early_end_of fault)) }
+{
+    serve_flushing(rt, alloc, ends, disk, options, reporter, &Unflushed)
+}
+
+/// Serves the archive of a disk as `serve_with`. Where several sessions are to settle and syncs are slow, their segment files are
+/// flushed first, beside the archive: by as many further threads as the flusher wants, 8 at most. It is to flush files of that
+/// disk. docs/SERVING.md, "When a frame is durable".
+pub fn serve_flushing<
+    R: Threads + Wait + Clock + Sync,
+    D: Disk + Drop + Send,
+    T: Reporter + Drop + Send + Sync,
+    F: Flusher + Sync,
+>(
+    rt: &R,
+    alloc: Global,
+    ends: Ends,
+    disk: D,
+    options: &ServeOptions<'_>,
+    reporter: T,
+    flusher: &F,
 ) -> Result<Served<D>, ScriptFault<D>>
     ensures served { IfOk result (λ back. IsServed (D.life disk) (D.life back.disk)) }
     ensures stop { IfOk result (λ back.
@@ -170,8 +202,10 @@ pub fn serve_with<
         streams: options.streams,
         segment_length: options.segment_length,
         is_strict: options.is_strict,
+        begins_short: options.begins_short,
         shared: &lines.shared,
         lines: &lines,
+        flusher,
     };
     begin(&serving, beginning);
     let (served, end) = serve_archive(&serving, tools, seat_room, archive, beginning);
@@ -217,6 +251,7 @@ fn shared_by(options: &ServeOptions<'_>) -> SharedOptions {
         gives_back: options.window.is_some(),
         is_strict: options.is_strict,
         is_measured: options.is_measured,
+        makes_checkpoints: options.makes_checkpoints,
     }
 }
 
@@ -225,8 +260,9 @@ fn serve_archive<
     R: Threads + Wait + Clock + Sync,
     D: Disk + Drop + Send,
     T: Reporter + Drop + Send + Sync,
+    F: Flusher + Sync,
 >(
-    with: &Serving<'_, R, T>,
+    with: &Serving<'_, R, T, F>,
     tools: Tools,
     seat_room: SeatRoom,
     archive: ScriptArchive<D>,
@@ -261,7 +297,7 @@ fn handed_back<D>(served: Served<D>, end: Result<(), EarlyEnd>) -> Result<Served
 }
 
 /// Reports where the server is, and how its archive began.
-fn begin<R, T: Reporter>(with: &Serving<'_, R, T>, beginning: Beginning) {
+fn begin<R, T: Reporter, F>(with: &Serving<'_, R, T, F>, beginning: Beginning) {
     let ends = (
         with.lines.control.listener.address(),
         with.socket.local_addr(),
@@ -283,8 +319,9 @@ fn serve_open<
     R: Threads + Wait + Clock + Sync,
     D: Disk + Drop + Send,
     T: Reporter + Drop + Send + Sync,
+    F: Flusher + Sync,
 >(
-    with: &Serving<'_, R, T>,
+    with: &Serving<'_, R, T, F>,
     tools: Tools,
     seat_room: SeatRoom,
     engine: Engine<D>,
@@ -295,31 +332,32 @@ fn serve_open<
     let Ok(opened) = Opened::new(with.alloc, false) else {
         return lacking(engine);
     };
-    serve_named::<D, Brand, R, T>(with, tools, seat_room, opened, engine)
+    serve_named::<D, Brand, R, T, F>(with, tools, seat_room, opened, engine)
 }
 
-/// Serves an archive that has a pass for each seat and for each client.
+/// Serves an archive that has a pass for the thread that records and one for each client.
 fn serve_named<
     D: Disk + Drop + Send,
     A: Naming + Send + Sync,
     R: Threads + Wait + Clock + Sync,
     T: Reporter + Drop + Send + Sync,
+    F: Flusher + Sync,
 >(
-    with: &Serving<'_, R, T>,
+    with: &Serving<'_, R, T, F>,
     tools: Tools,
     seat_room: SeatRoom,
     opened: Opened<Made>,
     engine: Engine<D>,
 ) -> (Served<D>, Result<(), EarlyEnd>)
     requires named { opened.table ≡ A.table }
-    requires counts { A.passes ≡ 64 + with.now.places.count }
+    requires counts { A.passes ≡ 1 + with.now.places.count }
     requires stores { opened.keeps ≡ A.keeps }
     requires opens { engine_seen D.life (view_of engine []) ≡ A.opening }
     ensures { EndsOrLacks (D.life engine.archive.storage.disk) A.opening with.now.is_strict
         (D.life result.0.disk) result.0.stop result.1 }
 {
     let places = with.places;
-    let count = FED_SESSIONS + places.count;
+    let count = 1 + places.count;
     let Ok(room) = Vec::with_capacity(with.alloc, count) else {
         return lacking(engine);
     };
@@ -328,11 +366,9 @@ fn serve_named<
         Ok(made) => made,
         Err(refused) => return lacking(refused.engine),
     };
-    let (passes, clients) = parted::<A>(passes, room);
-    let mut seats = seat_room.seated::<A>(passes);
-    if let Some(standing) = seats.standing(with.rt, &archive, 0) {
-        note_standing(with.shared, &standing);
-    }
+    let (pass, clients) = parted::<A>(passes, room);
+    let mut seats = seat_room.seated::<A>(pass);
+    begin_short(&recording_of(with, &archive), &mut seats, with.begins_short);
     with.shared.meter.set_open();
     let (passes, end) = serve_shared(with, tools, &archive, clients, seats);
     (closed(archive, passes, with.is_strict), end)
@@ -355,15 +391,16 @@ fn serve_shared<
     A: Naming + Send + Sync,
     R: Threads + Wait + Clock + Sync,
     T: Reporter + Drop + Send + Sync,
+    F: Flusher + Sync,
 >(
-    with: &Serving<'_, R, T>,
+    with: &Serving<'_, R, T, F>,
     tools: Tools,
     archive: &SharedArchive<D, A>,
     clients: Vec<Pass<Made>>,
     seats: Seats<A>,
 ) -> (Vec<Pass<Made>>, Result<(), EarlyEnd>)
     requires clients { AreClientPasses A.table A.passes clients.items }
-    requires room { 64 + vec_len clients ≤ vec_capacity clients }
+    requires room { 1 + vec_len clients ≤ vec_capacity clients }
     ensures { AreAllPasses A.table A.passes result.0.items }
 {
     let Tools {
@@ -384,7 +421,7 @@ fn serve_shared<
         *rt,
         |scope| -> (Vec<Pass<Made>>, Result<(), EarlyEnd>)
             requires clients { AreClientPasses A.table A.passes clients.items }
-            requires room { 64 + vec_len clients ≤ vec_capacity clients }
+            requires room { 1 + vec_len clients ≤ vec_capacity clients }
             ensures { AreAllPasses A.table A.passes result.0.items }
         {
             let recorder = match scope.spawn(move || record(with, archive, seats, batch)) {
@@ -416,10 +453,11 @@ fn serve_shared<
 }
 
 /// Serves lines alone, and receives datagrams that no session has.
-fn serve_closed<R: Threads + Wait + Clock + Sync, T: Reporter + Drop + Send + Sync>(
-    with: &Serving<'_, R, T>,
-    tools: Tools,
-) -> Result<(), EarlyEnd> {
+fn serve_closed<
+    R: Threads + Wait + Clock + Sync,
+    T: Reporter + Drop + Send + Sync,
+    F: Flusher + Sync,
+>(with: &Serving<'_, R, T, F>, tools: Tools) -> Result<(), EarlyEnd> {
     let Tools {
         images,
         senders,
@@ -443,27 +481,42 @@ fn serve_closed<R: Threads + Wait + Clock + Sync, T: Reporter + Drop + Send + Sy
 }
 
 /// Records until no more blocks come. The seats.
-fn record<D: Disk, A: Naming, R: Wait + Clock, T: Reporter>(
-    with: &Serving<'_, R, T>,
+fn record<D: Disk, A: Naming, R: Threads + Wait + Clock + Sync, T: Reporter, F: Flusher + Sync>(
+    with: &Serving<'_, R, T, F>,
     archive: &SharedArchive<D, A>,
     mut seats: Seats<A>,
     mut batch: VecDeque<FedBlock>,
 ) -> Seats<A> {
-    let recording = Recording {
+    let recording = recording_of(with, archive);
+    let own = OwnRecordings::new(with.segment_length);
+    record_all(
+        &recording,
+        &mut seats,
+        own,
+        with.settle_every,
+        &mut batch,
+        with.flusher,
+    );
+    seats
+}
+
+/// What the thread that records works with.
+fn recording_of<'x, D: Disk, A: Naming, R, T, F>(
+    with: &Serving<'x, R, T, F>,
+    archive: &'x SharedArchive<D, A>,
+) -> Recording<'x, D, A, R, T> {
+    Recording {
         rt: with.rt,
         alloc: with.alloc,
         archive,
         shared: with.shared,
         socket: with.socket,
-    };
-    let own = OwnRecordings::new(with.segment_length);
-    record_all(&recording, &mut seats, own, with.settle_every, &mut batch);
-    seats
+    }
 }
 
 /// Receives until the server ends, and ends it if no more can be received. Whether more could be.
-fn receive<R: Wait + Clock, T: Reporter>(
-    with: &Serving<'_, R, T>,
+fn receive<R: Wait + Clock, T: Reporter, F>(
+    with: &Serving<'_, R, T, F>,
     images: Images,
     senders: Option<Senders>,
     mut buffer: Vec<u8>,

@@ -50,7 +50,7 @@ pub(crate) fn ended<
 }
 
 /// The status with which it ends.
-fn status_of<
+pub(crate) fn status_of<
     R: Threads + Wait + Clock + Eprint + Net<Listener = TcpListener, Stream = TcpStream> + Sync,
     I: Read + Drop,
     W: Write,
@@ -59,7 +59,7 @@ fn status_of<
 }
 
 /// What a command writes has to be this, and its status that.
-fn check<
+pub(crate) fn check<
     R: Threads + Wait + Clock + Eprint + Net<Listener = TcpListener, Stream = TcpStream> + Sync,
 >(net: &R, rt: HostRuntime, command: ToolCommand<'_>, told: &str, status: u8) -> Result<(), Fail> {
     let mut out = Vec::new(rt.alloc());
@@ -84,7 +84,7 @@ pub(crate) fn record(rt: HostRuntime, folder: &str) -> Result<(), Fail> {
 }
 
 /// The same in its second recording.
-fn record_more(rt: HostRuntime, folder: &str) -> Result<(), Fail> {
+pub(crate) fn record_more(rt: HostRuntime, folder: &str) -> Result<(), Fail> {
     script(rt, folder, b"started 1 0\nsettled 64\n")
 }
 
@@ -123,12 +123,15 @@ fn command<'a>(word: Word, folder: &'a str, file: &'a str) -> ToolCommand<'a> {
         Word::List | Word::ListReadOnly => ToolCommand::List {
             folder,
             read_only: matches!(word, Word::ListReadOnly),
+            wait: None,
         },
         Word::Verify | Word::VerifyReadOnly => ToolCommand::Verify {
             folder,
+            recording: None,
             read_only: matches!(word, Word::VerifyReadOnly),
+            wait: None,
         },
-        Word::Compact => ToolCommand::Compact { folder },
+        Word::Compact => ToolCommand::Compact { folder, wait: None },
         Word::Frames => ToolCommand::Frames { file },
     }
 }

@@ -29,6 +29,12 @@ pub(crate) fn usual<'a>(alloc: Global) -> ServeWords<'a> {
         is_quiet: false,
         is_strict: false,
         metrics: None,
+        checkpoints: false,
+        no_checkpoints: false,
+        name: None,
+        logs_times: false,
+        no_create: false,
+        wait: None,
     }
 }
 
@@ -113,6 +119,60 @@ fn serve_has_its_reports(rt: HostRuntime) -> Result<(), Fail> {
         let mut words = usual(rt.alloc());
         words.is_strict = is_strict;
         words.metrics = metrics;
+        assert!(rt;
+            asks_for(rt.alloc(), line.as_str(), ToolCommand::Serve(words))?,
+            "{line}"
+        );
+    }
+    Ok(())
+}
+
+/// Whether checkpoints are asked for, and whether none are. `serve` refuses what does not go together, and not the command line.
+#[test]
+fn serve_has_its_checkpoints(rt: HostRuntime) -> Result<(), Fail> {
+    for (options, is_aeron, checkpoints, no_checkpoints) in [
+        ("--checkpoints", false, true, false),
+        ("--aeron --no-checkpoints", true, false, true),
+        ("--no-checkpoints --checkpoints", false, true, true),
+    ] {
+        let line = format!(in rt.alloc();
+            "archive_tool serve a --control 1 --receive 2 {options}"
+        )?;
+        let mut words = usual(rt.alloc());
+        words.is_aeron = is_aeron;
+        words.checkpoints = checkpoints;
+        words.no_checkpoints = no_checkpoints;
+        assert!(rt;
+            asks_for(rt.alloc(), line.as_str(), ToolCommand::Serve(words))?,
+            "{line}"
+        );
+    }
+    Ok(())
+}
+
+/// Its name, whether lines have their times, whether an archive has to be there, and for how long it is waited for.
+#[test]
+fn serve_has_its_operation(rt: HostRuntime) -> Result<(), Fail> {
+    for (options, name, logs_times, no_create, wait) in [
+        ("--name a-1", Some("a-1"), false, false, None),
+        ("--log-times --name=", Some(""), true, false, None),
+        ("--no-create --wait 30", None, false, true, Some(30)),
+        (
+            "--wait=1 --no-create --log-times",
+            None,
+            true,
+            true,
+            Some(1),
+        ),
+    ] {
+        let line = format!(in rt.alloc();
+            "archive_tool serve a --control 1 --receive 2 {options}"
+        )?;
+        let mut words = usual(rt.alloc());
+        words.name = name;
+        words.logs_times = logs_times;
+        words.no_create = no_create;
+        words.wait = wait;
         assert!(rt;
             asks_for(rt.alloc(), line.as_str(), ToolCommand::Serve(words))?,
             "{line}"
@@ -260,7 +320,7 @@ fn a_missing_port(rt: HostRuntime) -> Result<(), Fail> {
 }
 
 /// Words of `serve` over a folder that is not there, on ports that the system chooses.
-fn unserved<'a>(
+pub(crate) fn unserved<'a>(
     alloc: Global,
     folder: &'a str,
     receive_on: &'a str,
@@ -284,6 +344,12 @@ fn unserved<'a>(
         is_quiet: true,
         is_strict: false,
         metrics: None,
+        checkpoints: false,
+        no_checkpoints: false,
+        name: None,
+        logs_times: false,
+        no_create: false,
+        wait: None,
     }
 }
 
@@ -323,6 +389,42 @@ fn wrong_words_of_a_server(rt: HostRuntime) -> Result<(), Fail> {
         let streams = Streams::new(rt.alloc(), reason);
         assert!(rt; concluded(&streams, ended) == status, "{reason} {status}");
         assert!(rt; streams.awaited_came.get(), "{reason} {status}");
+    }
+    Ok(())
+}
+
+/// A name of a recorder has 1 to 64 letters, digits, `_`, `.` and `-`.
+#[test]
+fn names_of_a_server(rt: HostRuntime) -> Result<(), Fail> {
+    let (absent, wrong) = (
+        "the folder is not there",
+        "--name wants 1 to 64 of the characters A-Z, a-z, 0-9, _, . and -",
+    );
+    let longest = "AZaz09_.-0123456789012345678901234567890123456789012345678901234";
+    let folder = format!(in rt.alloc(); "{}/archive_tool-unnamed", env::temp_dir(&rt)?.display())?;
+    let longer = format!(in rt.alloc(); "{longest}5")?;
+    let mut out = Vec::new(rt.alloc());
+    for (name, reason, status) in [
+        (longest, absent, 3),
+        ("a", absent, 3),
+        (longer.as_str(), wrong, 2),
+        ("", wrong, 2),
+        ("a b", wrong, 2),
+        ("a\"", wrong, 2),
+        ("/", wrong, 2),
+        (":", wrong, 2),
+        ("@", wrong, 2),
+        ("[", wrong, 2),
+        ("`", wrong, 2),
+        ("{", wrong, 2),
+        ("\u{e9}", wrong, 2),
+    ] {
+        let mut words = unserved(rt.alloc(), folder.as_str(), "127.0.0.1", false, None);
+        words.name = Some(name);
+        let ended = ended(&rt, rt, ToolCommand::Serve(words), NO_LINES, &mut out);
+        let streams = Streams::new(rt.alloc(), reason);
+        assert!(rt; concluded(&streams, ended) == status, "{name} {status}");
+        assert!(rt; streams.awaited_came.get(), "{name} {status}");
     }
     Ok(())
 }
@@ -400,6 +502,38 @@ fn wrong_streams_of_a_server(rt: HostRuntime) -> Result<(), Fail> {
         let mut words = unserved(rt.alloc(), folder.as_str(), "127.0.0.1", is_aeron, None);
         words.streams = streams_of(rt.alloc(), count)?;
         words.segment_length = segment_length;
+        let ended = ended(&rt, rt, ToolCommand::Serve(words), NO_LINES, &mut out);
+        let streams = Streams::new(rt.alloc(), reason);
+        assert!(rt; concluded(&streams, ended) == status, "{reason} {status}");
+        assert!(rt; streams.awaited_came.get(), "{reason} {status}");
+    }
+    Ok(())
+}
+
+/// `--no-checkpoints` without `--aeron`, and with `--checkpoints`, is a usage error too.
+#[test]
+fn wrong_checkpoints_of_a_server(rt: HostRuntime) -> Result<(), Fail> {
+    let (absent, needs, both) = (
+        "the folder is not there",
+        "--no-checkpoints needs --aeron",
+        "--checkpoints and --no-checkpoints contradict each other",
+    );
+    let folder = format!(in rt.alloc();
+        "{}/archive_tool-unchecked",
+        env::temp_dir(&rt)?.display()
+    )?;
+    let mut out = Vec::new(rt.alloc());
+    for (is_aeron, checkpoints, no_checkpoints, reason, status) in [
+        (false, false, true, needs, 2),
+        (false, true, true, both, 2),
+        (true, true, true, both, 2),
+        (true, false, true, absent, 3),
+        (true, true, false, absent, 3),
+        (false, true, false, absent, 3),
+    ] {
+        let mut words = unserved(rt.alloc(), folder.as_str(), "127.0.0.1", is_aeron, None);
+        words.checkpoints = checkpoints;
+        words.no_checkpoints = no_checkpoints;
         let ended = ended(&rt, rt, ToolCommand::Serve(words), NO_LINES, &mut out);
         let streams = Streams::new(rt.alloc(), reason);
         assert!(rt; concluded(&streams, ended) == status, "{reason} {status}");

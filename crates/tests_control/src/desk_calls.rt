@@ -147,6 +147,7 @@ fn called_with_replay(
     Ok(called(alloc, &desk, kind, number, other)?)
 }
 
+/// Each call that is no request is refused by the first of its checks that fails.
 #[test]
 fn calls_are_refused_in_their_order(rt: HostRuntime) -> Result<(), Fail> {
     for (is_broken, kind, number, other, refusal) in CALLS {
@@ -161,6 +162,7 @@ fn terms_of_one(alloc: Global) -> Result<Geometry, Refusal> {
     read_terms(&desk, &0)
 }
 
+/// A session's bytes are read with the term length, MTU and initial term id of its recording.
 #[test]
 fn bytes_are_read_by_the_terms_of_the_recording(rt: HostRuntime) -> Result<(), Fail> {
     let terms = Geometry {
@@ -208,6 +210,7 @@ fn called_with_blocks(alloc: Global, last: i64, kind: u8, position: i64) -> Resu
     Ok(called(alloc, &desk, kind, 0, position)?)
 }
 
+/// A block follows where the last one ends, and one in the next segment needs a settle first.
 #[test]
 fn written_blocks_are_settled_before_the_next_segment(rt: HostRuntime) -> Result<(), Fail> {
     for (last, kind, position, refusal) in WRITTEN {
@@ -312,6 +315,8 @@ const TRUNCATED: [(i64, &'static str); 10] = [
     (131_104, "BadPosition"),
 ];
 
+/// The desk accepts a truncation to a segment's base, asks the frames at other multiples of 32 in the recording, and
+/// refuses all else.
 #[test]
 fn frames_are_asked_at_multiples_of_32_alone(rt: HostRuntime) -> Result<(), Fail> {
     let desk = stopped_behind_a_segment(rt.alloc())?;
@@ -336,6 +341,7 @@ fn many_replays(alloc: Global) -> Result<Desk, Refusal> {
 /// A recording, a position, and what the opening of one more is told. Of a recording that is not there no position is bad.
 const OPENED: [(i64, i64, u8); 3] = [(9, 0, 1), (0, 64, 5), (0, 0, 8)];
 
+/// With 64 replays open a further one is refused, unless its recording or position is refused first.
 #[test]
 fn at_most_64_replays_are_open(rt: HostRuntime) -> Result<(), Fail> {
     let desk = many_replays(rt.alloc())?;
@@ -426,6 +432,7 @@ fn found_of_two(
     Ok(found_on(alloc, &desk, sought(alloc, least, session_id, fragment)?))
 }
 
+/// `find` returns the highest id at or above its least whose stream, session and channel match, or -1.
 #[test]
 fn the_greatest_id_is_found(rt: HostRuntime) -> Result<(), Fail> {
     for (least, session_id, fragment, id) in SOUGHT {

@@ -159,6 +159,7 @@ fn told_in(alloc: Global, state: u8, kind: u8, recording: i64, number: i64) -> R
     Ok(told_of(alloc, &desk, kind, recording, number))
 }
 
+/// A request with several faults is refused by the first of its checks.
 #[test]
 fn refusals_come_in_their_order(rt: HostRuntime) -> Result<(), Fail> {
     for (state, kind, recording, number, refusal) in ROWS {

@@ -43,6 +43,8 @@ fn check(alloc: Global, room: u32, sessions: &[i64], text: &str) -> Result<(), F
     }
 }
 
+/// A group settles each session that has blocks, gives the position of those without, and counts one entry each; it is
+/// refused without room, or with a number twice.
 #[test]
 fn sessions_that_are_settled_together(rt: HostRuntime) -> Result<(), Fail> {
     check(rt.alloc(), 1, &[0, 1], "[Some(64), Some(0)] 3")?;
@@ -70,6 +72,7 @@ fn sixty_five_sessions_are_refused(rt: HostRuntime) -> Result<(), Fail> {
     Ok(())
 }
 
+/// After a checkpoint the history counts one entry for each active recording.
 #[test]
 fn a_checkpoint_counts_active_recordings(rt: HostRuntime) -> Result<(), Fail> {
     let mut desk = with_two(rt.alloc(), 1)?;
@@ -81,6 +84,7 @@ fn a_checkpoint_counts_active_recordings(rt: HostRuntime) -> Result<(), Fail> {
     Ok(())
 }
 
+/// A copy of a group's reply has the same positions.
 #[test]
 fn a_copy_of_positions(rt: HostRuntime) -> Result<(), Fail> {
     let positions = Items::from_vec([Some(128), None].to_vec(rt.alloc())?);

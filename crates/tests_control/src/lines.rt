@@ -42,6 +42,7 @@ fn started(line: &Line) -> Option<[bool; 4]> {
     }
 }
 
+/// The `start` line of docs/CONTROL.md is read, field by field.
 #[test]
 fn a_line_that_starts_a_recording(rt: HostRuntime) -> Result<(), Fail> {
     let are_told = started(&parse_line(rt.alloc(), START_LINE)?);
@@ -96,6 +97,7 @@ fn has_bytes(alloc: Global, line: &str) -> Result<bool, Refusal> {
     Ok(bytes_of(&line) == Some([0, 255, 160, 175].as_slice()))
 }
 
+/// Frames in hex are read in either case, in each line that has some.
 #[test]
 fn lines_with_bytes(rt: HostRuntime) -> Result<(), Fail> {
     for line in [
@@ -111,7 +113,7 @@ fn lines_with_bytes(rt: HostRuntime) -> Result<(), Fail> {
 }
 
 /// A line, and what it asks the archive for.
-const ASKED: [(&'static str, &'static str); 15] = [
+const ASKED: [(&'static str, &'static str); 16] = [
     ("list 0 -1", "Event(Ask(List { from: 0, count: -1 }))"),
     (
         "extend 1 1001 7 42 65536 1408 128",
@@ -140,6 +142,7 @@ const ASKED: [(&'static str, &'static str); 15] = [
     ),
     ("close 4", "Event(ReplayClose { replay: 4 })"),
     ("sweep", "Event(Sweep)"),
+    ("checkpoint", "Event(Checkpoint)"),
     ("verify 1", "Event(Verify { recording: 1 })"),
     ("reopen", "Reopen"),
     ("compact", "Compact"),
@@ -156,6 +159,7 @@ fn check_asked(alloc: Global, line: &str, asked: &str) -> Result<(), Fail> {
     }
 }
 
+/// Each line of the grammar is read as the call that it asks for.
 #[test]
 fn lines_that_ask_the_archive(rt: HostRuntime) -> Result<(), Fail> {
     for (line, asked) in ASKED {
@@ -178,6 +182,7 @@ fn sought(line: &Line) -> Option<(bool, bool)> {
     }
 }
 
+/// A `find` line is read, with a fragment that contains a blank.
 #[test]
 fn a_line_that_seeks_a_recording(rt: HostRuntime) -> Result<(), Fail> {
     let found = sought(&parse_line(rt.alloc(), b"find 2 1001 -7 a b")?);
@@ -224,8 +229,8 @@ poll-to 0 10
 poll-to 0 10 1 2
 poll-to 0 10 +1
 sweep 1
-checkpoint
 checkpoint 1
+checkpoint 
 compact 1";
 
 fn is_malformed(alloc: Global, line: &[u8]) -> bool {
@@ -245,6 +250,8 @@ fn longest(alloc: Global) -> Result<(bool, bool), Fail> {
     Ok((is_read, is_malformed(alloc, line.as_slice())))
 }
 
+/// Lines with a field missing, too many, malformed or out of range are refused, as are bytes that are not UTF-8 and lines
+/// of more than 262,144 bytes.
 #[test]
 fn malformed_lines(rt: HostRuntime) -> Result<(), Fail> {
     for line in MALFORMED.split('\n') {
@@ -355,6 +362,7 @@ fn check_merges(alloc: Global) -> Result<(), Fail> {
     check_printed(alloc, Reply::Bye, "bye\n")
 }
 
+/// Each reply without frames or descriptors is printed as docs/CONTROL.md has it.
 #[test]
 fn replies_of_one_word_and_numbers(rt: HostRuntime) -> Result<(), Fail> {
     check_recorders(rt.alloc())?;
@@ -424,6 +432,7 @@ fn two_frames(alloc: Global) -> Result<Items<PolledFrame>, Fail> {
     Ok(frames)
 }
 
+/// The frames of a poll are printed with their positions and bytes, and the last line gives the next position.
 #[test]
 fn frame_lines(rt: HostRuntime) -> Result<(), Fail> {
     let polled = Reply::Polled {
@@ -471,6 +480,7 @@ const REFUSALS: [(Refusal, &'static str); 23] = [
     (Refusal::NeedCompact, "error 23 NeedCompact\n"),
 ];
 
+/// Each refusal is printed with its number, its name and its details.
 #[test]
 fn refusal_lines(rt: HostRuntime) {
     for (refusal, text) in REFUSALS {

@@ -60,6 +60,7 @@ fn started_of(
     Ok(started_in(alloc, version, &start))
 }
 
+/// A start is refused for a channel or a source that is too long, and as NeedCompact where only version 1 can't hold it.
 #[test]
 fn channels_and_sources_have_limits(rt: HostRuntime) -> Result<(), Fail> {
     for (version, channel, source, refusal) in LENGTHS {
@@ -91,6 +92,7 @@ fn started_from(alloc: Global, source: &'static str) -> Result<u8, Refusal> {
     Ok(started_in(alloc, BankVersion::Two, &start))
 }
 
+/// A source with a blank or a control character is refused.
 #[test]
 fn sources_have_no_blanks(rt: HostRuntime) -> Result<(), Fail> {
     for (source, refusal) in SOURCES {
@@ -150,6 +152,8 @@ fn told_in_order(
     told_by(alloc, &desk, line)
 }
 
+/// Over a catalogue of version 1 a start is refused by the first of: broken, parameters, 64 active recordings, need of a
+/// compaction, full history.
 #[test]
 fn a_start_is_refused_in_order(rt: HostRuntime) -> Result<(), Fail> {
     for (is_broken, count, limit, line, refusal) in ORDER {
@@ -219,6 +223,7 @@ fn sources_of_two(alloc: Global) -> Result<[bool; 4], Refusal> {
     Ok(sources_told(alloc, &desk))
 }
 
+/// A recording keeps its source over an extension, and it is answered even by a broken archive.
 #[test]
 fn a_recording_keeps_its_source(rt: HostRuntime) -> Result<(), Fail> {
     let told = sources_of_two(rt.alloc())?;

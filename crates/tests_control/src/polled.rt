@@ -104,6 +104,7 @@ fn fits(alloc: Global, room: usize) -> Result<bool, Fail> {
     Ok(write_polled(frames.as_slice(), None, &mut FullWriter { room }).is_ok())
 }
 
+/// A poll ends with a fault if the output has no room for all its lines.
 #[test]
 fn a_failing_writer_ends_a_poll(rt: HostRuntime) -> Result<(), Fail> {
     for (room, is_enough) in [

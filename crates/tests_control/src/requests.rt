@@ -49,6 +49,7 @@ fn start_decided(alloc: Global, limit: u32) -> Result<&'static str, Refusal> {
     Ok(decided_at(alloc, limit, &request))
 }
 
+/// An archive without recordings accepts a start.
 #[test]
 fn a_start_is_accepted(rt: HostRuntime) -> Result<(), Fail> {
     let decided = start_decided(rt.alloc(), 1)?;
@@ -56,6 +57,7 @@ fn a_start_is_accepted(rt: HostRuntime) -> Result<(), Fail> {
     Ok(())
 }
 
+/// An archive without recordings lists none, and does not refuse.
 #[test]
 fn nothing_is_listed(rt: HostRuntime) {
     let decided = decided_at(rt.alloc(), 1, &Request::List { from: 0, count: 10 });
@@ -71,6 +73,7 @@ fn sought(alloc: Global) -> Result<Request, Fail> {
     }))
 }
 
+/// An archive without recordings answers a `find` by -1.
 #[test]
 fn nothing_is_found(rt: HostRuntime) -> Result<(), Fail> {
     let decided = decided_at(rt.alloc(), 1, &sought(rt.alloc())?);

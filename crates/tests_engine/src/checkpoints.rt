@@ -124,6 +124,8 @@ fn stopped(alloc: Global, checkpoints: u64, changes: u64) -> Result<(bool, Memor
     Ok((is_answered, engine.into_disk()))
 }
 
+/// If the disk stops after any change of a checkpoint, each crash leaves all recordings and frames as they were, and only
+/// a whole checkpoint is answered.
 #[test]
 fn each_stop_of_a_checkpoint_leaves_the_state(rt: HostRuntime) -> Result<(), Fail> {
     let text = text_before(rt.alloc())?;
@@ -155,6 +157,8 @@ fn failed(alloc: Global, checkpoints: u64, call: u64) -> Result<Engine<MemoryDis
     }
 }
 
+/// If any disk call of a checkpoint fails, the archive is broken and still reads, and each crash leaves all recordings
+/// and frames as they were.
 #[test]
 fn each_call_of_a_checkpoint_that_fails_leaves_the_state(rt: HostRuntime) -> Result<(), Fail> {
     let text = text_before(rt.alloc())?;
@@ -178,6 +182,8 @@ fn catalogue_of(alloc: Global, mut disk: MemoryDisk) -> Result<(u64, usize), Ref
     Ok((log.epoch(), log.counted()))
 }
 
+/// After one to three checkpoints, sessions, unsettled blocks and the open replay go on as without one, and active
+/// recordings keep being counted in the new history.
 #[test]
 fn all_goes_on_in_the_new_bank(rt: HostRuntime) -> Result<(), Fail> {
     let mut plain = before(rt.alloc(), MemoryDisk::new(rt.alloc()), 0)?;
@@ -250,6 +256,7 @@ fn checkpoints(rt: &impl Abort, alloc: Global) -> Result<(), Refusal> {
     Ok(())
 }
 
+/// A checkpoint that is refused memory changes nothing, and succeeds if it is tried again.
 #[test]
 fn refused_memory_of_a_checkpoint(rt: HostRuntime) -> Result<(), Fail> {
     if checkpoints(&rt, rt.alloc()).is_err() {

@@ -97,6 +97,8 @@ fn behind(alloc: Global) -> Result<(MemoryDisk, Vec<u8>), Refusal> {
     Ok((engine.into_disk(), text))
 }
 
+/// After a stop at any change of a compaction, and at any change of the next, a crash leaves the archive's state, in the
+/// bank whose gate was opened last.
 #[test]
 fn each_stop_of_two_compactions_leaves_the_state(rt: HostRuntime) -> Result<(), Fail> {
     let (disk, text) = behind(rt.alloc())?;

@@ -1,4 +1,4 @@
-//! Stops at each device call, and what a crash leaves: docs/SCENARIOS.md.
+//! Stops at each device call, and what a crash leaves: docs/STORAGE.md, "Crash model" and "Recovery".
 
 use crate::calls::{answered, answers, created, disk_behind, goes_on, made, open, opened, run};
 use disk_core::MemoryDisk;

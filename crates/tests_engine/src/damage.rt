@@ -116,6 +116,8 @@ recording 2 1000 -1 0 -1 42 65536 65536 1408 7 1001 c
 end 3
 ";
 
+/// Reading a damaged segment file reports Damaged whether it is cut, changed or missing, and all other recordings are
+/// read as before.
 #[test]
 fn readings_over_damage(rt: HostRuntime) -> Result<(), Fail> {
     for how in DAMAGES {
@@ -376,6 +378,7 @@ fn changes_of_looks(rt: &impl Abort, alloc: Global, how: Damage) -> Result<u64, 
     Ok(disk.changes().wrapping_sub(before))
 }
 
+/// Readings and refused calls over a damaged segment file change nothing on the disk.
 #[test]
 fn looks_over_damage_change_nothing(rt: HostRuntime) -> Result<(), Fail> {
     for (how, changes) in [(Damage::Cut(36), 7), (Damage::Turned, 7), (Damage::Gone, 6)] {

@@ -1,4 +1,4 @@
-//! What several recorder sessions wrote, settled together: docs/SCENARIOS.md, "Groups".
+//! What several recorder sessions wrote, settled together: docs/CONTROL.md, "Recorder sessions".
 
 use crate::calls::{answer, answers, made, run};
 use crate::runs::{leaves, text_found};
@@ -61,6 +61,7 @@ fn disk_of(alloc: Global, numbers: &[i64]) -> Result<MemoryDisk, Refusal> {
     settled(alloc, &mut engine, numbers).and(Ok(engine.into_disk()))
 }
 
+/// Sessions that are settled together get each its own settled position, and a session that is not open gets none.
 #[test]
 fn each_session_is_answered_its_position(rt: HostRuntime) -> Result<(), Fail> {
     let mut engine = written(rt.alloc(), MemoryDisk::new(rt.alloc()), 16)?;
@@ -107,6 +108,7 @@ fn survives_stop(alloc: Global, changes: u64) -> Result<(bool, bool), Refusal> {
     survives(alloc, disk)
 }
 
+/// If the disk stops after any change of a group settle, a crash leaves all of the group settled or nothing of it.
 #[test]
 fn each_stop_leaves_all_of_a_group_or_nothing(rt: HostRuntime) -> Result<(), Fail> {
     for changes in 0..=CHANGES {
@@ -124,6 +126,8 @@ fn survives_failure(alloc: Global, call: u64) -> Result<(bool, bool), Refusal> {
     survives(alloc, disk)
 }
 
+/// If any disk call of a group settle fails, the archive is broken, and a crash leaves all of the group settled or
+/// nothing of it.
 #[test]
 fn each_failed_call_leaves_all_of_a_group_or_nothing(rt: HostRuntime) -> Result<(), Fail> {
     for call in 1..=CHANGES + 1 {
@@ -149,6 +153,7 @@ fn is_refused(
     Ok(is_refused && desk.counted() == counted && !desk.is_broken())
 }
 
+/// A group for which the history has no room is refused whole, and a smaller group that fits is settled.
 #[test]
 fn a_full_history_refuses_a_group_whole(rt: HostRuntime) -> Result<(), Fail> {
     let mut engine = written(rt.alloc(), MemoryDisk::new(rt.alloc()), 4)?;
@@ -170,6 +175,7 @@ fn numbers_below(alloc: Global, count: i64) -> Result<Vec<i64>, Refusal> {
     Ok(numbers)
 }
 
+/// A group names each session once and at most 64 sessions, else it is refused and nothing changes.
 #[test]
 fn numbers_stand_once_and_are_64_at_most(rt: HostRuntime) -> Result<(), Fail> {
     let mut engine = written(rt.alloc(), MemoryDisk::new(rt.alloc()), 16)?;

@@ -132,6 +132,7 @@ fn merged(alloc: Global) -> Result<(bool, bool, bool), Refusal> {
     merge_both(alloc, &mut merge)
 }
 
+/// A replay of recorded frames and the frames of a live image are merged to each frame once, in order.
 #[test]
 fn a_replay_is_merged_with_the_live_stream(rt: HostRuntime) -> Result<(), Fail> {
     let (are_held, is_whole, is_merged) = merged(rt.alloc())?;

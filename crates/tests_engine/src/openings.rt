@@ -1,5 +1,5 @@
 //! Readings and openings of which each call of the disk fails: nothing is broken, and the next try finds the same.
-//! docs/SCENARIOS.md, "Faults of the disk".
+//! docs/STORAGE.md, "Recovery".
 
 use crate::calls::{leaves, opened};
 use crate::runs::text_found;
@@ -57,6 +57,8 @@ fn are_answered(rt: &impl Abort, alloc: Global, fails_at: u64) -> Result<(), Fai
     Ok(())
 }
 
+/// If a disk call of a reading fails, that reading is answered DeviceFault, the archive is not broken, and the next try
+/// answers as usual.
 #[test]
 fn a_failed_reading_breaks_nothing(rt: HostRuntime) -> Result<(), Fail> {
     for fails_at in 1..=6u64 {

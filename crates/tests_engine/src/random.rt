@@ -238,6 +238,7 @@ fn has_all(rt: &impl Abort, text: &str) {
     }
 }
 
+/// The 200 random calls contain each command at least once, so that the other tests of this file ask of each.
 #[test]
 fn each_command_comes_by_chance(rt: HostRuntime) -> Result<(), Fail> {
     let answers = String::from_utf8(answers_by_chance(rt.alloc())?)?;
@@ -245,6 +246,7 @@ fn each_command_comes_by_chance(rt: HostRuntime) -> Result<(), Fail> {
     Ok(())
 }
 
+/// If the disk stops after any change, a crash leaves what the accepted calls made, or these and the one in flight.
 #[test]
 fn each_stop_leaves_a_beginning_of_the_calls(rt: HostRuntime) -> Result<(), Fail> {
     for changes in 0..1_000 {
@@ -257,6 +259,8 @@ fn each_stop_leaves_a_beginning_of_the_calls(rt: HostRuntime) -> Result<(), Fail
     Ok(())
 }
 
+/// If the disk stops after any change of one of five compactions between random calls, a crash leaves the recordings and
+/// frames before it.
 #[test]
 fn each_stop_of_a_compaction_leaves_the_state(rt: HostRuntime) -> Result<(), Fail> {
     assert!(rt; compactions_survived(rt.alloc())?);

@@ -1,5 +1,5 @@
 //! Requests for memory that are refused, in calls, openings and compactions: `trials/refused_memory.py tests` runs each test once for
-//! each of its requests, which it refuses. docs/SCENARIOS.md, "Faults of the disk".
+//! each of its requests, which it refuses. docs/STORAGE.md, "Recovery".
 
 use crate::calls::{answer, event_in, opened, told, transcript};
 use crate::handing::Starts;
@@ -288,6 +288,7 @@ fn opens(rt: &impl Abort, alloc: Global) -> Result<(), Refusal> {
     Ok(())
 }
 
+/// An opening that is refused memory changes no file, and succeeds if it is tried again.
 #[test]
 fn refused_memory_of_an_opening(rt: HostRuntime) -> Result<(), Fail> {
     if opens(&rt, rt.alloc()).is_err() {
@@ -324,6 +325,7 @@ fn compacts_script(rt: &impl Abort, alloc: Global) -> Result<(), Refusal> {
     Ok(())
 }
 
+/// A compaction that is refused memory keeps the archive, and succeeds if it is tried again.
 #[test]
 fn refused_memory_of_a_compaction(rt: HostRuntime) -> Result<(), Fail> {
     if compacts_script(&rt, rt.alloc()).is_err() {

@@ -1,4 +1,4 @@
-//! Scenarios of docs/SCENARIOS.md by events.
+//! The worked scenarios by events: docs/CONTROL.md, "Requests", "Recorder sessions" and "Replays".
 
 use crate::calls::{disk_behind, goes_on, plays};
 use disk_core::{Disk, FileId, MemoryDisk};
@@ -38,6 +38,7 @@ frame 128 2500000000c001008000000007000000e90300002a000000000000000000000068656c
 done
 ";
 
+/// A replay with a length ends with the frame in which its last byte is.
 #[test]
 fn bounded_part_of_a_recording(rt: HostRuntime) -> Result<(), Fail> {
     played(&rt, rt.alloc(), BOUNDED_PART)
@@ -87,6 +88,7 @@ stop 0 2000: stopped 0
 settle 0: error 12 StaleSession
 ";
 
+/// A stop drops written blocks that are not settled, and ends the session.
 #[test]
 fn unsettled_block_lost_at_a_stop(rt: HostRuntime) -> Result<(), Fail> {
     played(&rt, rt.alloc(), UNSETTLED)
@@ -100,6 +102,7 @@ settle 0: settled 65536
 write 0 65536: written 65600
 ";
 
+/// A block in the next segment is refused as NeedSettle until the blocks before it are settled.
 #[test]
 fn settle_before_the_next_segment(rt: HostRuntime) -> Result<(), Fail> {
     played(&rt, rt.alloc(), SEGMENT_END)
@@ -177,6 +180,7 @@ more 128
 verify 0: verified 2
 ";
 
+/// A truncation removes frames from a frame's start on, and an extension records other frames there.
 #[test]
 fn truncation_and_extension(rt: HostRuntime) -> Result<(), Fail> {
     played(&rt, rt.alloc(), TRUNCATION)
@@ -201,6 +205,7 @@ purge 0: purged-recording
 sweep: swept 1
 ";
 
+/// A purge moves the start of a recording, and sweeps then remove its segment files one by one.
 #[test]
 fn purge_of_segments_and_sweeps(rt: HostRuntime) -> Result<(), Fail> {
     played(&rt, rt.alloc(), PURGE)
@@ -225,6 +230,7 @@ poll 0 1: error 15 Damaged 0 0
 poll 0 1: error 15 Damaged 0 0
 ";
 
+/// A frame whose header is damaged is reported as Damaged with its position, by `verify` and by each poll.
 #[test]
 fn damaged_frame(rt: HostRuntime) -> Result<(), Fail> {
     let disk = plays(
@@ -278,6 +284,7 @@ fn calls_for(alloc: Global, most: usize) -> Result<u64, Refusal> {
     Ok(disk_behind(alloc, CALLS, most)?.calls().wrapping_sub(7))
 }
 
+/// Each call on a new archive makes exactly so many disk calls.
 #[test]
 fn device_calls_are_counted(rt: HostRuntime) -> Result<(), Fail> {
     for (most, calls) in [

@@ -1,5 +1,5 @@
 //! A script that makes each change of an archive: what it is answered, by how many changes of the disk, and what each stop and
-//! each failed call of the disk leaves of it. docs/SCENARIOS.md, "Faults of the disk".
+//! each failed call of the disk leaves of it. docs/STORAGE.md, "Recovery".
 
 use crate::calls::{answered, event_in, made, plays};
 use crate::reference::Story;
@@ -93,6 +93,7 @@ fn changes_of(alloc: Global, rows: usize) -> Result<u64, Refusal> {
     Ok(disk_after(alloc, rows)?.changes().wrapping_sub(6))
 }
 
+/// Each call of the script makes exactly the number of disk changes in its row.
 #[test]
 fn each_call_makes_so_many_changes(rt: HostRuntime) -> Result<(), Fail> {
     let mut rows = 0usize;
@@ -220,6 +221,7 @@ fn expected(alloc: Global, fails_at: Option<u64>) -> Result<String, AllocError> 
     put_all(alloc, &mut text, fails_at).and(Ok(text))
 }
 
+/// Each call of the script is answered as its row says.
 #[test]
 fn each_call_is_answered(rt: HostRuntime) -> Result<(), Fail> {
     let script = expected(rt.alloc(), None)?;
@@ -276,6 +278,7 @@ fn survives_stop(alloc: Global, changes: u64) -> Result<(bool, bool), Refusal> {
     survives(alloc, played(alloc, disk)?)
 }
 
+/// If the disk stops after any change, a crash leaves what the answered calls made, or these and the one in flight.
 #[test]
 fn each_stop_leaves_a_beginning_of_the_script(rt: HostRuntime) -> Result<(), Fail> {
     for changes in 0..=CHANGES {
@@ -292,6 +295,7 @@ fn survives_failure(alloc: Global, call: u64) -> Result<(bool, bool), Refusal> {
     survives(alloc, played(alloc, disk)?)
 }
 
+/// If any disk call fails, a crash leaves what the answered calls made, or these and the one in flight.
 #[test]
 fn each_failed_call_leaves_a_beginning_of_the_script(rt: HostRuntime) -> Result<(), Fail> {
     for call in 1..=49u64 {

@@ -1,4 +1,4 @@
-//! How often an archive syncs its disk: docs/SCENARIOS.md.
+//! How often an archive syncs its disk: docs/STORAGE.md, "Recovery".
 
 use crate::calls::{created, event_of};
 use control_core::Event;

@@ -1,4 +1,4 @@
-//! The plain book of an archive, and the register: scenarios of docs/SCENARIOS.md at the calls of plain_book and archive_model.
+//! The plain book of an archive, and the register: the worked scenarios at the calls of plain_book and archive_model.
 
 use crate::catalogues::register_of_bank;
 use crate::vectors::{HELLO_AT_0, HELLO_AT_64, HELLO_AT_128};
@@ -148,6 +148,7 @@ fn check_stopped(rt: &impl Abort, alloc: Global, book: &mut Book) -> Result<(), 
     Ok(())
 }
 
+/// The plain book records three frames, replays them, and stops the recording at its end.
 #[test]
 fn first_recording_and_replay(rt: HostRuntime) -> Result<(), Fail> {
     let mut book = three_hellos(rt.alloc())?;

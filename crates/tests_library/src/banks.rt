@@ -65,6 +65,8 @@ fn beside(
     made.and(Ok(answer(alloc, &mut disk)))
 }
 
+/// The bank with an open gate and the higher epoch is in use; a later one that is damaged, newer or no catalogue is
+/// refused, and so are two of one epoch.
 #[test]
 fn the_open_bank_of_the_later_epoch_is_in_use(rt: HostRuntime) -> Result<(), Fail> {
     let rows = [
@@ -161,6 +163,8 @@ fn bank_after(alloc: Global, is_open: bool, stop: u64, choice: u8) -> Result<&'s
     Ok(answer(alloc, &mut left).0)
 }
 
+/// If the disk stops while the other bank is written, each crash leaves the old bank in use until the new one's gate is
+/// open.
 #[test]
 fn a_stop_while_a_bank_is_written_anew(rt: HostRuntime) -> Result<(), Fail> {
     let rows = [

@@ -52,6 +52,7 @@ fn look_for_the_last(board: &Board, mut reader: Reader) -> (Reader, bool)
     (reader, false)
 }
 
+/// A position that one thread raises is seen by a reader in another thread.
 #[test]
 fn a_position_is_seen_in_another_thread(rt: HostRuntime) -> Result<(), Fail> {
     let (board, mut writers, mut readers) = Board::new(rt.alloc(), &[0], 1)?;

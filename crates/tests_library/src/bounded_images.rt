@@ -1,4 +1,4 @@
-//! Images whose stock is bounded: the scenarios of docs/SCENARIOS.md, and each request for memory refused.
+//! Images whose stock is bounded: docs/PROTOCOL.md, "Stock", by example; and each request for memory refused.
 
 use crate::images::{datagram, message};
 use crate::vectors::{HEARTBEAT_AT_256, HELLO_AT_0, HELLO_AT_128, SETUP};
@@ -62,6 +62,7 @@ fn check_stock(rt: &impl Abort, alloc: Global, image: &mut BoundedImage) -> Resu
     Ok(())
 }
 
+/// A frame that ends past 1 MiB of held frames is dropped, and is held once a block has been taken.
 #[test]
 fn what_ends_past_the_stock_is_lost(rt: HostRuntime) -> Result<(), Fail> {
     let mut image = joined(rt.alloc())?;
@@ -138,6 +139,7 @@ fn check_alone(
     Ok(())
 }
 
+/// A pad of up to half a term is held if it comes alone, though it is longer than the stock, and is taken as one block.
 #[test]
 fn long_pads_go_through_alone(rt: HostRuntime) -> Result<(), Fail> {
     for (term_length, length, next, is_held) in PADS {
@@ -184,6 +186,7 @@ fn check_after_frames(
     Ok(())
 }
 
+/// A pad of up to half a term is held after frames too; a message past it that was dropped is held once the pad is taken.
 #[test]
 fn long_pads_go_through_after_frames(rt: HostRuntime) -> Result<(), Fail> {
     for (term_length, length, next, is_held) in PADS {
@@ -264,6 +267,7 @@ fn check_request(rt: &impl Abort, alloc: Global, image: &mut BoundedImage) -> Re
     Ok(())
 }
 
+/// A NAK asks for no byte past the window, nor past the next frame that is held.
 #[test]
 fn a_request_ends_with_the_window(rt: HostRuntime) -> Result<(), Fail> {
     let mut image = joined(rt.alloc())?;

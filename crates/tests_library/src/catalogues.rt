@@ -130,6 +130,7 @@ fn check_written(rt: &impl Abort, alloc: Global, disk: &mut MemoryDisk) -> Resul
     Ok(())
 }
 
+/// A new catalogue with two entries has the bytes of docs/STORAGE.md, "Entries".
 #[test]
 fn a_bank_is_written_byte_for_byte(rt: HostRuntime) -> Result<(), Fail> {
     let mut disk = MemoryDisk::new(rt.alloc());
@@ -153,6 +154,7 @@ fn opened(alloc: Global, disk: &mut MemoryDisk) -> Result<(u32, u64, usize, usiz
     Ok((log.limit(), log.epoch(), log.counted(), entries.len()))
 }
 
+/// A bank of version 1 is opened with its limit, epoch and entries, and the opening only syncs.
 #[test]
 fn a_bank_is_opened(rt: HostRuntime) -> Result<(), Fail> {
     let mut disk = with_bank(rt.alloc())?;
@@ -173,6 +175,7 @@ fn gone_on(alloc: Global, disk: &mut MemoryDisk) -> Result<(BankVersion, bool), 
     ))
 }
 
+/// An entry is added to a bank of version 1 in that version, after the bytes that are there.
 #[test]
 fn a_bank_of_version_1_goes_on_in_it(rt: HostRuntime) -> Result<(), Fail> {
     let mut disk = with_bank(rt.alloc())?;
@@ -198,6 +201,7 @@ fn begins_bank(
     Ok(is_bank(disk)?)
 }
 
+/// The entry that a start command makes has the bytes of docs/STORAGE.md.
 #[test]
 fn a_start_is_committed_byte_for_byte(rt: HostRuntime) -> Result<(), Fail> {
     let entry = start_of_command(rt.alloc())?;
@@ -226,6 +230,7 @@ fn has_settled(register: &Register) -> bool {
     found.recorded == 64 && register.next_recording() == 1 && register.active_count() == 1
 }
 
+/// The bank's entries make the register with its one recording, active and settled at 64.
 #[test]
 fn entries_make_a_register(rt: HostRuntime) -> Result<(), Fail> {
     assert!(rt; has_settled(&register_of_bank(rt.alloc())?));
@@ -239,6 +244,7 @@ fn cut_bank(alloc: Global, length: u64) -> Result<(&'static str, i64), Fault> {
         .and(Ok(answer(alloc, &mut disk)))
 }
 
+/// A bank of version 1 that is cut at any length is refused, as no catalogue or as damaged at the entry that is cut.
 #[test]
 fn a_bank_is_cut_at_each_length(rt: HostRuntime) -> Result<(), Fail> {
     // Lengths from one to the next row's: the entry that the bank ends in is damaged.
@@ -263,6 +269,7 @@ fn cut_new_bank(alloc: Global, length: u64) -> Result<(&'static str, i64), Fault
         .and(Ok(answer(alloc, &mut disk)))
 }
 
+/// A bank of version 2 that is cut at any length is refused, as no catalogue or as damaged at the entry that is cut.
 #[test]
 fn a_bank_of_version_2_is_cut_at_each_length(rt: HostRuntime) -> Result<(), Fail> {
     let rows = [
@@ -286,6 +293,7 @@ fn of_version(alloc: Global, bank: &[u8], version: u8) -> Result<(&'static str, 
         .and(Ok(answer(alloc, &mut disk)))
 }
 
+/// A bank is read by the version in its header: 0 is no catalogue, 3 and above are newer.
 #[test]
 fn banks_are_read_by_their_version(rt: HostRuntime) -> Result<(), Fail> {
     // The version, and what the banks of version 1 and 2 are answered where they have it.
@@ -312,6 +320,7 @@ fn with_source(alloc: Global, source: u8) -> Result<(&'static str, i64), Fault> 
         .and(Ok(answer(alloc, &mut disk)))
 }
 
+/// An entry whose source has a blank, a control character or malformed UTF-8 is damaged.
 #[test]
 fn a_source_is_a_text_without_blanks(rt: HostRuntime) -> Result<(), Fail> {
     let rows = [
@@ -334,6 +343,8 @@ fn changed_bank(alloc: Global, offset: u64) -> Result<(&'static str, i64), Fault
         .and(Ok(answer(alloc, &mut disk)))
 }
 
+/// A changed byte of a bank's header is refused unless it gives another valid limit or epoch, and a changed first gate
+/// hides all entries.
 #[test]
 fn each_byte_of_a_header_is_changed(rt: HostRuntime) -> Result<(), Fail> {
     let rows = [
@@ -355,6 +366,7 @@ fn each_byte_of_a_header_is_changed(rt: HostRuntime) -> Result<(), Fail> {
     Ok(())
 }
 
+/// A changed byte of a start is damage wherever the entry is no longer valid.
 #[test]
 fn each_byte_of_a_start_is_changed(rt: HostRuntime) -> Result<(), Fail> {
     let rows = [
@@ -381,6 +393,7 @@ fn each_byte_of_a_start_is_changed(rt: HostRuntime) -> Result<(), Fail> {
     Ok(())
 }
 
+/// A changed byte of a settle is damage wherever the entry is no longer valid; a changed gate hides it.
 #[test]
 fn each_byte_of_a_settle_is_changed(rt: HostRuntime) -> Result<(), Fail> {
     let rows = [
@@ -408,6 +421,7 @@ fn found_after(alloc: Global, stop: u64, choice: u8) -> Result<(&'static str, i6
     Ok(answer(alloc, &mut left))
 }
 
+/// If the disk stops while a catalogue is created, a crash leaves no catalogue or an empty one.
 #[test]
 fn a_stop_while_it_is_created(rt: HostRuntime) -> Result<(), Fail> {
     for stop in 0..6u64 {
@@ -423,6 +437,7 @@ fn a_stop_while_it_is_created(rt: HostRuntime) -> Result<(), Fail> {
     Ok(())
 }
 
+/// If the disk stops after any change of three appends, a crash leaves the entries that were answered, or one more.
 #[test]
 fn a_stop_at_each_change_of_three_appends(rt: HostRuntime) -> Result<(), Fail> {
     // Changes before the stop, and how many entries are found by the choices 0, 1 and 255.
@@ -552,6 +567,7 @@ fn check_again(
     Ok(())
 }
 
+/// An append that is refused memory changes nothing on the disk, and succeeds if it is tried again.
 #[test]
 fn refused_memory_leaves_the_catalogue(rt: HostRuntime) -> Result<(), Fail> {
     let first = start_again(rt.alloc())?;

@@ -191,6 +191,8 @@ fn check_both(rt: &impl Abort, alloc: Global, disk: &mut MemoryDisk) -> Result<(
     check_next(rt, alloc, disk, &mut log)
 }
 
+/// Checkpoints of a catalogue of version 2 write the other bank, byte for byte, and the next one writes the first bank
+/// again.
 #[test]
 fn a_checkpoint_of_version_2_is_written_byte_for_byte(rt: HostRuntime) -> Result<(), Fail> {
     let mut disk = MemoryDisk::new(rt.alloc());
@@ -198,6 +200,7 @@ fn a_checkpoint_of_version_2_is_written_byte_for_byte(rt: HostRuntime) -> Result
     check_both(&rt, rt.alloc(), &mut disk)
 }
 
+/// The checkpoint of a catalogue of version 1 writes the same bytes, in version 2.
 #[test]
 fn a_checkpoint_of_version_1_is_written_byte_for_byte(rt: HostRuntime) -> Result<(), Fail> {
     let mut disk = MemoryDisk::new(rt.alloc());
@@ -224,6 +227,8 @@ fn stopped_after(alloc: Global, times: u8, stop: u64, choice: u8) -> Result<&'st
     Ok(found_in(alloc, &mut left, 96))
 }
 
+/// If the disk stops after any change of a first checkpoint, a crash leaves the old bank or the new one, with the same
+/// recordings.
 #[test]
 fn a_stop_at_each_change_of_a_checkpoint(rt: HostRuntime) -> Result<(), Fail> {
     // Changes before the stop, and the bank that is in use by the choices 0, 1 and 255.
@@ -243,6 +248,7 @@ fn a_stop_at_each_change_of_a_checkpoint(rt: HostRuntime) -> Result<(), Fail> {
     Ok(())
 }
 
+/// The same of a second checkpoint, which first closes the gate of the bank that it writes.
 #[test]
 fn a_stop_at_each_change_of_a_checkpoint_over_an_open_bank(rt: HostRuntime) -> Result<(), Fail> {
     let rows = [
@@ -325,6 +331,7 @@ fn refused_with(
     ))
 }
 
+/// A checkpoint is refused, and changes nothing, if the other bank is missing or has an open gate without a whole header.
 #[test]
 fn a_checkpoint_is_refused(rt: HostRuntime) -> Result<(), Fail> {
     let rows: [(FileId, &[u8], u64, Option<Refusal>); 5] = [
@@ -356,6 +363,7 @@ fn refused_at_the_end(alloc: Global) -> Result<Option<Refusal>, Fail> {
     })
 }
 
+/// At the last epoch a checkpoint is refused as HistoryFull, and changes nothing.
 #[test]
 fn no_checkpoint_follows_the_last_epoch(rt: HostRuntime) -> Result<(), Fail> {
     assert!(rt; refused_at_the_end(rt.alloc())? == Some(Refusal::HistoryFull));
@@ -377,6 +385,7 @@ fn full_history(rt: &impl Abort, alloc: Global, disk: &mut MemoryDisk) -> Result
     Ok(())
 }
 
+/// A checkpoint makes room in a full history.
 #[test]
 fn a_full_history_is_checkpointed(rt: HostRuntime) -> Result<(), Fail> {
     let mut disk = MemoryDisk::new(rt.alloc());

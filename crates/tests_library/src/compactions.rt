@@ -95,6 +95,7 @@ fn check_both(rt: &impl Abort, alloc: Global, disk: &mut MemoryDisk) -> Result<(
     check_next(rt, alloc, disk)
 }
 
+/// A compaction writes the other bank, byte for byte, and the next one writes the first bank again.
 #[test]
 fn a_catalogue_is_compacted_byte_for_byte(rt: HostRuntime) -> Result<(), Fail> {
     let mut disk = MemoryDisk::new(rt.alloc());

@@ -101,6 +101,7 @@ fn check_left(rt: &impl Abort, disk: &MemoryDisk) -> Result<(), Fail> {
     left_reads(rt, disk, &[], Some(&[1, 2, 3]))
 }
 
+/// A crash leaves synced bytes as they are, and unsynced ones as before, as written or as others, by its choice.
 #[test]
 fn a_crash_leaves_what_the_choice_says(rt: HostRuntime) -> Result<(), Fail> {
     let disk = overwritten(rt.alloc())?;
@@ -166,6 +167,7 @@ fn check_failures(rt: &impl Abort, disk: &mut MemoryDisk) -> Result<(), Fail> {
     left_reads(rt, disk, &[1], None)
 }
 
+/// A failing call of the disk in memory takes effect all the same, and a call after a stop does not.
 #[test]
 fn failing_calls_take_effect_and_stopped_ones_do_not(rt: HostRuntime) -> Result<(), Fail> {
     let mut disk = MemoryDisk::new(rt.alloc());
@@ -270,6 +272,7 @@ fn refused_memory_changes_nothing(rt: HostRuntime) -> Result<(), Fail> {
     run_second(&rt, &mut disk)
 }
 
+/// Banks and segment files have the names of docs/STORAGE.md.
 #[test]
 fn files_have_names(rt: HostRuntime) -> Result<(), Fail> {
     for (file, name) in [

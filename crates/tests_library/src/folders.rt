@@ -174,6 +174,7 @@ const WRITTEN: [Row; 1] = [(Call::Length(SEGMENT), Ok(8))];
 
 const NO_FAULTS: [Row; 1] = [(Call::Faults, Ok(0))];
 
+/// Bytes that are written to a folder are read after it is closed and opened again, and gaps read as zeros.
 #[test]
 fn what_is_written_is_read_when_opened_again(rt: HostRuntime) -> Result<(), Fail> {
     let path = scratch(rt, "written")?;
@@ -211,6 +212,8 @@ fn check_cuts(abort: &impl Abort, rt: HostRuntime, path: &str) -> Result<(), Fai
     Ok(())
 }
 
+/// A cut shortens a file and never lengthens it, a removed file is gone from the folder, and a missing file is cut and
+/// removed without a fault.
 #[test]
 fn cuts_and_removes(rt: HostRuntime) -> Result<(), Fail> {
     let path = scratch(rt, "cut")?;
@@ -262,6 +265,7 @@ fn put_others(rt: HostRuntime, path: &str) -> Result<(), Fail> {
     Ok(())
 }
 
+/// Files are listed in order, banks first, and files with other names are ignored.
 #[test]
 fn files_are_listed_in_order_and_other_names_ignored(rt: HostRuntime) -> Result<(), Fail> {
     let path = scratch(rt, "listed")?;
@@ -292,6 +296,7 @@ fn check_busy(abort: &impl Abort, rt: HostRuntime, path: &str) {
     drop(disk.close());
 }
 
+/// A folder that is open is refused as busy to a second writer, but not to a reader, and a missing folder is refused.
 #[test]
 fn a_folder_is_opened_once(rt: HostRuntime) -> Result<(), Fail> {
     let path = scratch(rt, "opened")?;
@@ -338,6 +343,7 @@ fn check_links(abort: &impl Abort, rt: HostRuntime, path: &str) -> Result<(), Fa
     Ok(())
 }
 
+/// A link or a folder in the place of an archive file is refused, and what a link names is not touched.
 #[test]
 fn links_and_folders_are_refused(rt: HostRuntime) -> Result<(), Fail> {
     let path = scratch(rt, "links")?;
@@ -358,6 +364,8 @@ const UNSYNCED: [Row; 1] = [(Call::Sync(SEGMENT), FAULT)];
 
 const AGAIN: [Row; 2] = [(Call::Length(SEGMENT), Ok(0)), (Call::List, Ok(1))];
 
+/// After a failed sync each further change of that file and each listing fails until the folder is opened again; other
+/// files go on.
 #[test]
 fn a_file_whose_sync_failed_is_asked_no_more(rt: HostRuntime) -> Result<(), Fail> {
     let path = scratch(rt, "lost")?;
@@ -380,6 +388,7 @@ const BEHIND: [Row; 5] = [
     (Call::Faults, Ok(3)),
 ];
 
+/// After failed changes of a file it is still read, written and synced, and the faults are counted.
 #[test]
 fn reading_goes_on_after_a_failed_write(rt: HostRuntime) -> Result<(), Fail> {
     let path = scratch(rt, "failed")?;
@@ -406,6 +415,7 @@ fn check_last_fault(abort: &impl Abort, rt: HostRuntime, path: &str) -> Result<(
     Ok(())
 }
 
+/// The last fault names its call, its file and the system's reason.
 #[test]
 fn the_last_fault_is_kept(rt: HostRuntime) -> Result<(), Fail> {
     let path = scratch(rt, "fault")?;
@@ -435,6 +445,7 @@ fn check_room(abort: &impl Abort, rt: HostRuntime, path: &str) {
     }
 }
 
+/// At most 128 files are open; an unsynced one is not closed to open another, whose write fails instead.
 #[test]
 fn no_unsynced_file_is_closed_to_make_room(rt: HostRuntime) -> Result<(), Fail> {
     let path = scratch(rt, "room")?;

@@ -1,4 +1,4 @@
-//! Frames, datagrams, positions, blocks, setup frames, NAKs and status messages: the vectors of docs/SCENARIOS.md, and docs/PROTOCOL.md by
+//! Frames, datagrams, positions, blocks, setup frames, NAKs and status messages: docs/PROTOCOL.md, its vectors and sections by
 //! example.
 
 use crate::vectors::{
@@ -55,6 +55,7 @@ fn check_written(rt: &impl Abort, alloc: Global, bytes: &[u8]) -> Result<(), Ref
     Ok(())
 }
 
+/// Each vector of docs/PROTOCOL.md decodes to its fields, and encodes to the same bytes.
 #[test]
 fn vectors_are_read_and_written(rt: HostRuntime) -> Result<(), Fail> {
     for (bytes, kind, size, term, offset, payload) in [
@@ -98,6 +99,7 @@ fn is_refused(alloc: Global, vector: &[u8], offset: usize, new: &[u8]) -> Result
     Ok(matches!(found, Err(Refusal::BadFrame { offset: 0 })))
 }
 
+/// A frame with a bad length, version, type or offset is refused as BadFrame.
 #[test]
 fn bad_frame_headers_are_refused(rt: HostRuntime) -> Result<(), Fail> {
     for (vector, offset, new) in [
@@ -138,6 +140,7 @@ fn count_of(alloc: Global, first: &[u8], second: &[u8]) -> Result<usize, Refusal
     count_in(alloc, &bytes)
 }
 
+/// A datagram may have several data frames, and no heartbeat after one.
 #[test]
 fn datagrams(rt: HostRuntime) {
     let late = Refusal::BadFrame { offset: 64 };
@@ -145,6 +148,7 @@ fn datagrams(rt: HostRuntime) {
     assert!(rt; count_of(rt.alloc(), HELLO_AT_0, HEARTBEAT_AT_256) == Err(late));
 }
 
+/// Positions go on when the term id wraps from the largest i32 to the smallest.
 #[test]
 fn positions_wrap_past_the_largest_term_id(rt: HostRuntime) {
     let geometry = Geometry {
@@ -164,6 +168,7 @@ fn ends(alloc: Global, bytes: &[u8]) -> Result<(i64, Option<i64>), Refusal> {
     Ok((block.position, block_end(&GEOMETRY, &PUBLICATION, &block)))
 }
 
+/// A block's frames begin and end at the stream positions of their term ids and offsets, and a heartbeat is no block.
 #[test]
 fn blocks_are_read(rt: HostRuntime) {
     for (bytes, from, end) in [
@@ -177,6 +182,7 @@ fn blocks_are_read(rt: HostRuntime) {
     assert!(rt; ends(rt.alloc(), HEARTBEAT_AT_256) == Err(Refusal::BadBlock));
 }
 
+/// Setup frames and NAKs decode to their fields, and NAKs encode to the same bytes.
 #[test]
 fn setup_frames_and_naks(rt: HostRuntime) {
     let said = Setup {
@@ -279,6 +285,7 @@ fn check_changed(rt: &impl Abort) {
     }
 }
 
+/// Status messages decode and encode to the same bytes, with application feedback too; cut or changed ones are refused.
 #[test]
 fn status_messages(rt: HostRuntime) {
     assert!(rt; StatusMessage::decode(&STATUS) == Ok(SAID) && SAID.encode() == STATUS);
@@ -291,6 +298,7 @@ fn status_messages(rt: HostRuntime) {
     check_changed(&rt);
 }
 
+/// Items keep the order in which they were added.
 #[test]
 fn items_keep_their_order(rt: HostRuntime) -> Result<(), Fail> {
     let alloc = rt.alloc();

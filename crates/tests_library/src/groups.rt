@@ -85,6 +85,7 @@ fn check_same(rt: &impl Abort, alloc: Global, count: i64) -> Result<(), Fail> {
     Ok(())
 }
 
+/// Entries that are added together leave the bytes of that many appends, by four changes of the disk in all.
 #[test]
 fn entries_added_together_are_written_as_that_many_appends(rt: HostRuntime) -> Result<(), Fail> {
     for count in [1i64, 2, 64] {
@@ -161,6 +162,7 @@ fn refused_at(alloc: Global, limit: u8, count: i64) -> Result<(Option<Refusal>, 
     Ok((told, disk.changes() == changes && log.counted() == 2))
 }
 
+/// A group of entries that the history has no room for is refused whole, and nothing changes.
 #[test]
 fn a_group_has_room_or_is_refused_whole(rt: HostRuntime) -> Result<(), Fail> {
     // The limit, how many entries, and whether they have no room.

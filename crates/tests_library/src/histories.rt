@@ -1,4 +1,4 @@
-//! Histories of calls: the scenario of docs/SCENARIOS.md, and each request for memory refused.
+//! Histories of calls: docs/CONTROL.md, "Histories of calls"; and each request for memory refused.
 
 ghost use Rattle.std.specs.Prelude.{◌≡◌, ℕ, true};
 ghost use Rattle.call_history.specs.Stored.{record_if};
@@ -140,6 +140,8 @@ const THREE_CALLS: [Call; 3] = [
     Call { pass: 0, asked: 11 },
 ];
 
+/// A history closes only with all its passes, says how many are missing, and then gives all calls in order, or their
+/// count.
 #[test]
 fn a_pass_is_missing(rt: HostRuntime) -> Result<(), Fail> {
     let (missing, stored) = three_calls(rt.alloc(), true)?;
@@ -159,6 +161,7 @@ fn passes_made(alloc: Global, count: u64) -> Result<usize, HistoryRefusal> {
     Ok(passes.len())
 }
 
+/// A history has 1 to 256 passes; another number is refused.
 #[test]
 fn a_history_has_1_to_256_passes(rt: HostRuntime) -> Result<(), Fail> {
     let alloc = rt.alloc();

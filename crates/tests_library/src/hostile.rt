@@ -75,6 +75,7 @@ const BANKS: [(u64, u64, u8, (&str, i64)); 9] = [
     (108, 1, 0, ("NotCatalogue", 0)),
 ];
 
+/// Opening a bank with any hostile byte answers as docs/STORAGE.md says, and changes no file.
 #[test]
 fn an_opening_of_hostile_banks_syncs_alone(rt: HostRuntime) -> Result<(), Fail> {
     for (length, at, byte, told) in BANKS {
@@ -93,6 +94,7 @@ fn recorded(alloc: Global) -> Result<Option<i64>, Fail> {
     Ok(register.recording(&0).map(|found| found.recorded))
 }
 
+/// A settle whose gate has a byte other than 1 does not count.
 #[test]
 fn a_settle_past_another_gate_is_not_there(rt: HostRuntime) -> Result<(), Fail> {
     assert!(rt; recorded(rt.alloc())? == Some(0));
@@ -107,6 +109,7 @@ const LENGTHS: [(u64, u64, (&str, i64)); 4] = [
     (108, 109, ("A", 2)),
 ];
 
+/// Opening a bank that is cut at any length answers as docs/STORAGE.md says, and changes no file.
 #[test]
 fn an_opening_of_a_cut_bank_syncs_alone(rt: HostRuntime) -> Result<(), Fail> {
     for (from, to, told) in LENGTHS {

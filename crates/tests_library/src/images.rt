@@ -1,4 +1,5 @@
-//! Images and repair: the scenarios of docs/SCENARIOS.md, each request for memory refused, and a stream over a bad line.
+//! Images and repair: docs/PROTOCOL.md, "Images" and "Repair", by example; each request for memory refused, and a
+//! stream over a bad line.
 
 use crate::vectors::{
     HEARTBEAT_AT_256, HELLO_AT_0, HELLO_AT_64, HELLO_AT_128, NAK_AT_64, NAK_AT_192, SETUP,
@@ -73,6 +74,7 @@ fn check_gaps(rt: &impl Abort, image: &mut Image) -> Result<(), Refusal> {
     Ok(())
 }
 
+/// Frames and heartbeats move the rebuild position and the high-water mark, and the NAK asks for the gap between them.
 #[test]
 fn frames_and_heartbeats_move_the_gap(rt: HostRuntime) -> Result<(), Fail> {
     let mut image = image(rt.alloc())?;
@@ -85,6 +87,7 @@ fn held_at(alloc: Global, image: &mut Image, offset: i32) -> Result<usize, Fail>
     Ok(insert(image, &datagram(alloc, &frame)?)?)
 }
 
+/// A frame that ends past the window of half a term is dropped.
 #[test]
 fn frames_past_the_window_are_dropped(rt: HostRuntime) -> Result<(), Fail> {
     let mut image = image(rt.alloc())?;
@@ -112,6 +115,7 @@ fn repaired_at_64(alloc: Global, nak: &Nak) -> Result<Items<Items<u8>>, Fail> {
     repaired(alloc, &frames, nak)
 }
 
+/// A NAK is answered by the datagrams of the frames that it asks for.
 #[test]
 fn a_request_is_answered_by_its_frames(rt: HostRuntime) -> Result<(), Fail> {
     let sent = repaired_at_64(rt.alloc(), &Nak::decode(&NAK_AT_64)?)?;
@@ -344,6 +348,7 @@ fn taken_over(rt: &impl Abort, alloc: Global, image: &mut Image) -> Result<u32, 
     Ok(taken)
 }
 
+/// A stream whose datagrams are lost, repeated and reordered is rebuilt whole and in order by NAKs.
 #[test]
 fn a_stream_comes_whole_over_a_bad_line(rt: HostRuntime) -> Result<(), Fail> {
     let mut image = image_from_the_largest(rt.alloc())?;

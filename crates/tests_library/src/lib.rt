@@ -17,6 +17,8 @@ mod checkpoints;
 #[cfg(test)]
 mod compactions;
 #[cfg(test)]
+mod copies;
+#[cfg(test)]
 mod disks;
 #[cfg(test)]
 mod folders;
@@ -39,11 +41,15 @@ mod pages;
 #[cfg(test)]
 mod pairs;
 #[cfg(test)]
+mod publications;
+#[cfg(test)]
 mod receivers;
 #[cfg(test)]
 mod replays;
 #[cfg(test)]
 mod segments;
+#[cfg(test)]
+mod senders;
 #[cfg(test)]
 mod settled;
 #[cfg(test)]

@@ -17,8 +17,9 @@ aeron_recorder_archive_broken 0
 ";
 
 /// Lines that it has.
-const LINES: [&str; 9] = [
+const LINES: [&str; 10] = [
     "aeron_recorder_history_limit_entries 1048576\n",
+    "# TYPE aeron_recorder_checkpoints_total counter\naeron_recorder_checkpoints_total 7\n# HELP aeron_recorder_checkpoints_refused_total Checkpoints that were refused.\n# TYPE aeron_recorder_checkpoints_refused_total counter\naeron_recorder_checkpoints_refused_total 1\n",
     "# TYPE aeron_recorder_recorded_bytes_total counter\naeron_recorder_recorded_bytes_total 18446744073709551615\n",
     "# TYPE aeron_recorder_settle_seconds summary\naeron_recorder_settle_seconds_sum 61.000203\naeron_recorder_settle_seconds_count 9\n",
     "aeron_recorder_settle_longest_seconds 0.000001\n",
@@ -37,6 +38,8 @@ fn measures(alloc: Global) -> Result<Measures, AllocError> {
             is_full: false,
             entries: 12,
             limit: 1_048_576,
+            checkpoints: 7,
+            refused_checkpoints: 1,
         },
         recorder: RecorderMeasures {
             bytes: u64::MAX,
@@ -91,6 +94,7 @@ fn image(
     }
 }
 
+/// A server's measures are printed in the text format, with their types and labels.
 #[test]
 fn a_server_is_measured(rt: HostRuntime) -> Result<(), Fail> {
     let text = print_metrics(rt.alloc(), &measures(rt.alloc())?)?;

@@ -67,6 +67,7 @@ fn check_nak(rt: &impl Abort, image: &BoundedImage) {
     assert!(rt; feedback.request(10_009, image).is_none());
 }
 
+/// A NAK is repeated after 10 ms, then after twice as long each time up to 160 ms, and not after 10 seconds of silence.
 #[test]
 fn a_gap_is_asked_for_again_and_again(rt: HostRuntime) -> Result<(), Fail> {
     let image = with_gap(rt.alloc())?;
@@ -130,6 +131,8 @@ fn check_silence(rt: &impl Abort, feedback: &mut Feedback, image: &BoundedImage)
     assert!(rt; feedback.is_live(20_000) && due(feedback, 20_000, image).is_some());
 }
 
+/// A status message is due after 200 ms or a quarter of the window, and not after 10 seconds of silence until the sender
+/// is heard again.
 #[test]
 fn status_messages_follow_the_clock_and_the_stream(rt: HostRuntime) -> Result<(), Fail> {
     let mut image = joined(rt.alloc())?;
@@ -168,6 +171,7 @@ fn check_bounds(rt: &impl Abort, image: &BoundedImage) {
     }
 }
 
+/// Under a bound, status messages name no consumed position past it, and always a multiple of 32.
 #[test]
 fn status_messages_name_no_position_past_a_bound(rt: HostRuntime) -> Result<(), Fail> {
     let mut image = joined(rt.alloc())?;
@@ -190,6 +194,7 @@ fn bound(term_length: i32, most: i32, settled: u32) -> u64 {
     )
 }
 
+/// The bound of a settled position plus the window is five sixteenths of a term past it.
 #[test]
 fn bounds_of_what_is_settled(rt: HostRuntime) {
     assert!(rt; bound(65_536, 20_480, 4_096) == 4_096);
@@ -211,6 +216,7 @@ fn window(most: i32, term_length: i32, mtu: i32) -> Option<i32> {
     )
 }
 
+/// The receiver window is at most half a term, and there is none if it is below one MTU.
 #[test]
 fn windows(rt: HostRuntime) {
     for (most, term_length, mtu, bytes) in [
@@ -251,6 +257,7 @@ fn check_65(rt: &impl Abort, requests: &mut SetupRequests) {
     }
 }
 
+/// At most 64 publications are asked for a setup frame within 200 ms; a further one waits.
 #[test]
 fn the_65th_publication_waits(rt: HostRuntime) -> Result<(), Fail> {
     let mut requests = SetupRequests::new(rt.alloc())?;
@@ -259,6 +266,7 @@ fn the_65th_publication_waits(rt: HostRuntime) -> Result<(), Fail> {
     Ok(())
 }
 
+/// The request for a setup frame is a status message with the setup flag, byte for byte.
 #[test]
 fn a_setup_frame_is_asked_for_by_these_bytes(rt: HostRuntime) {
     assert!(rt; setup_request(&publication(7), 9).encode() == SETUP_REQUEST);

@@ -52,6 +52,8 @@ fn stored(rt: &impl Abort, alloc: Global) -> Result<MemoryDisk, Refusal> {
     }
 }
 
+/// A replay with a length ends with the frame in which its last byte is, and each frame that it gives costs one disk
+/// call.
 #[test]
 fn bounded_part_of_a_recording(rt: HostRuntime) -> Result<(), Fail> {
     let mut disk = three_hellos(&rt, rt.alloc())?;
@@ -62,6 +64,7 @@ fn bounded_part_of_a_recording(rt: HostRuntime) -> Result<(), Fail> {
     Ok(())
 }
 
+/// A replay of an active recording stops at the recorded position, and is done once the recording is stopped.
 #[test]
 fn polls_up_to_the_recorded_position(rt: HostRuntime) -> Result<(), Fail> {
     let mut disk = three_hellos(&rt, rt.alloc())?;

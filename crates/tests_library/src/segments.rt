@@ -1,4 +1,4 @@
-//! Segment files: the scenarios of docs/SCENARIOS.md that speak of them, what a crash leaves of a torn block, and device
+//! Segment files: docs/STORAGE.md, "Segments", by example; what a crash leaves of a torn block, and device
 //! calls counted.
 
 ghost use Rattle.std.specs.Prelude.{◌≡◌, pos};
@@ -137,6 +137,7 @@ fn check_both(rt: &impl Abort, alloc: Global, disk: &mut MemoryDisk) -> Result<(
     Ok(())
 }
 
+/// A pad at a term's end and the next frame are written by one disk call each, at their offsets in the same file.
 #[test]
 fn a_pad_at_a_terms_end_and_its_file(rt: HostRuntime) -> Result<(), Fail> {
     let mut disk = MemoryDisk::new(rt.alloc());
@@ -156,6 +157,7 @@ fn check_pad(rt: &impl Abort, alloc: Global, disk: &mut MemoryDisk) -> Result<()
     Ok(())
 }
 
+/// A frame is read by one disk call, and a boundary past a hole in the file is answered Damaged.
 #[test]
 fn a_frame_costs_one_call(rt: HostRuntime) -> Result<(), Fail> {
     let mut disk = MemoryDisk::new(rt.alloc());
@@ -287,6 +289,7 @@ fn check_sweep(rt: &impl Abort, alloc: Global, disk: &mut MemoryDisk) -> Result<
     Ok(())
 }
 
+/// A sweep removes the first stale file, and none if no file is stale.
 #[test]
 fn a_sweep_removes_the_first_stale_file(rt: HostRuntime) -> Result<(), Fail> {
     let mut disk = MemoryDisk::new(rt.alloc());
@@ -350,12 +353,15 @@ fn check_three(rt: &impl Abort, alloc: Global, disk: &mut MemoryDisk) -> Result<
     Ok(())
 }
 
+/// A recording that starts mid-stream has its first segment file from the start of that term on, and each frame at its
+/// offset.
 #[test]
 fn segments_of_a_recording_that_starts_mid_stream(rt: HostRuntime) -> Result<(), Fail> {
     let mut disk = MemoryDisk::new(rt.alloc());
     check_three(&rt, rt.alloc(), &mut disk)
 }
 
+/// The base of the segment file of a position changes exactly where a segment ends.
 #[test]
 #[tactic(auto, using(crate::proofs::SegmentFacts::layout_from_mid_stream))]
 fn bases_of_a_recording_that_starts_mid_stream(rt: HostRuntime) {

@@ -1,4 +1,4 @@
-//! The named vectors of docs/SCENARIOS.md, each once. Session 7, stream 1,001, flags 0xC0 where a frame has them.
+//! The vectors of docs/PROTOCOL.md, "Vectors", each once. Session 7, stream 1,001, flags 0xC0 where a frame has them.
 
 /// `hello`, term 42, offset 0.
 pub const HELLO_AT_0: &[u8] =

@@ -100,6 +100,7 @@ fn kept(alloc: Global, version: u8, texts: (u16, u16)) -> Result<(&'static str, 
     answer_of(alloc, &bytes)
 }
 
+/// Channels and sources are read up to the limits of the bank's version, and longer or empty ones are damage.
 #[test]
 fn texts_of_each_version_at_their_limits(rt: HostRuntime) -> Result<(), Fail> {
     // The version, the lengths of channel and source, and whether the entry is one.
@@ -261,6 +262,7 @@ fn history_is_kept(alloc: Global, seed: u32) -> Result<bool, Fail> {
     Ok(makes_it_twice(alloc, &mut one, &register)? && makes_it_twice(alloc, &mut two, &register)?)
 }
 
+/// Random histories make the same recordings in both versions, and again after a compaction.
 #[test]
 fn histories_are_the_same_in_both_versions(rt: HostRuntime) -> Result<(), Fail> {
     for seed in [1, 2, 3] {

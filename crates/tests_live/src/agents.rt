@@ -1,4 +1,4 @@
-//! Agents, each in a thread of its own: "Two recorders and two replayers" and "A gate", docs/SCENARIOS.md.
+//! Agents, each in a thread of its own: docs/ARCHITECTURE.md, "Agents".
 
 ghost use Rattle.std.specs.Prelude.{◌≡◌, IfOk, IfSome};
 ghost use Rattle.agents_core.specs.Runs.{AreReading, AreSeated};

@@ -1,4 +1,4 @@
-//! Conversations with a server, as text: docs/SCENARIOS.md, "Serving".
+//! Conversations with a server, as text: docs/SERVING.md, "Control lines".
 //!
 //! An empty line ends a connection, and the next line begins another one. Behind a line's word stands what is said, or the
 //! name of a datagram of `vectors`, and behind a colon what has to be answered:
@@ -8,6 +8,7 @@
 //!   a stream;
 //! - `receives` waits for one, `receives-among` for one among others, `silence` until none has come for a second;
 //! - `follows` waits for one line more;
+//! - `beats` sends a datagram each 200 milliseconds for 3 seconds;
 //! - `pauses` waits for 300 milliseconds, `rests` for 3 seconds, `loses` until an image was lost, `ends` until the server has
 //!   ended the connection.
 
@@ -76,6 +77,7 @@ fn is_met<R: Clock + Net<Listener = TcpListener, Stream = TcpStream>>(
         "sends" => client.send(said.as_bytes()),
         "casts" => client.casts(datagram(said)),
         "casts-elsewhere" => client.casts_elsewhere(rt, datagram(said)),
+        "beats" => beats(rt, client, datagram(said)),
         "casts-ten" => client.casts_ten(),
         "records-200" => client.records_200(rt, alloc),
         "receives" => client.receives(datagram(said)),
@@ -100,6 +102,17 @@ fn parted<'a>(text: &'a str, mark: &str) -> (&'a str, &'a str) {
 
 fn sleeps<R: Clock>(rt: &R, milliseconds: u64) -> bool {
     thread::sleep(rt, Duration::from_millis(milliseconds));
+    true
+}
+
+/// Sends a datagram each 200 milliseconds for 3 seconds.
+fn beats<R: Clock>(rt: &R, client: &Client, datagram: &[u8]) -> bool {
+    for _ in 0..15 {
+        if !client.casts(datagram) {
+            return false;
+        }
+        sleeps(rt, 200);
+    }
     true
 }
 

@@ -1,4 +1,4 @@
-//! Calls under a lock whose disk fails, or that find no memory: docs/SCENARIOS.md, "Archives that threads share".
+//! Calls under a lock whose disk fails, or that find no memory: docs/STORAGE.md, "Recovery".
 
 use crate::archives::{Counted, Scenario, Seats, left_by, played, played_again};
 use crate::seat::Seat;

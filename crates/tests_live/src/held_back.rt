@@ -1,4 +1,4 @@
-//! A replayer that a recorder's position holds back: "Bounded replayer", docs/SCENARIOS.md.
+//! A replayer that a recorder's position holds back: docs/ARCHITECTURE.md, "Followers".
 
 ghost use Rattle.std.specs.Prelude.{◌≡◌, ◌<◌};
 

@@ -1,4 +1,4 @@
-//! What a server leaves of an archive that has recordings, if its clients ask for no change: docs/SCENARIOS.md, "Serving".
+//! What a server leaves of an archive that has recordings, if its clients ask for no change: docs/SERVING.md, "After a restart".
 
 use crate::serving::served;
 use disk_core::MemoryDisk;

@@ -29,11 +29,15 @@ mod metrics;
 #[cfg(test)]
 mod misfits;
 #[cfg(test)]
+mod protocols;
+#[cfg(test)]
 mod receivers;
 #[cfg(test)]
 mod recorded;
 #[cfg(test)]
 mod refused_turns;
+#[cfg(test)]
+mod resumed;
 #[cfg(test)]
 mod scenarios;
 #[cfg(test)]

@@ -38,6 +38,8 @@ const ARCHIVE: ArchiveMeasures = ArchiveMeasures {
     is_full: false,
     entries: 2,
     limit: 1_048_576,
+    checkpoints: 0,
+    refused_checkpoints: 0,
 };
 
 const DATAGRAMS: DatagramMeasures = DatagramMeasures {

@@ -6,7 +6,7 @@ use server::{IDLE_SECONDS, SEGMENT_LENGTH, SETTLE_EVERY, ServeOptions};
 use std::test::Fail;
 
 /// Aeron's initial window, and the receiver 9, which records the publications of these streams.
-fn recorder(streams: &[i32]) -> ServeOptions<'_> {
+pub(crate) fn recorder(streams: &[i32]) -> ServeOptions<'_> {
     ServeOptions {
         idle_seconds: IDLE_SECONDS,
         settle_every: SETTLE_EVERY,
@@ -17,11 +17,13 @@ fn recorder(streams: &[i32]) -> ServeOptions<'_> {
         segment_length: SEGMENT_LENGTH,
         is_strict: false,
         is_measured: false,
+        makes_checkpoints: false,
+        begins_short: false,
     }
 }
 
 /// A setup frame makes a recording. After a client's `stop` the next setup frame at the stop position extends it. After ten seconds of
-/// silence it is stopped, and a setup frame further on makes another one.
+/// silence it is stopped, and goes on where it was: what a setup frame further on leaves out is asked for.
 const RECORDED: &str = "\
 casts SETUP
 casts HELLO_AT_0
@@ -42,8 +44,10 @@ awaits positions 0: positions 0 128 128
 rests
 asks images: end 0
 casts SETUP_AT_192
-awaits positions 1: positions 192 192 -1
-asks images: image 2 7 1001 42 65536 1408 192 2
+receives-among NAK_AT_128
+casts HELLO_AT_128
+awaits positions 0: positions 0 192 -1
+asks images: image 3 7 1001 42 65536 1408 128 2
 follows end 1
 ";
 

@@ -1,4 +1,4 @@
-//! Turns of a bounded replayer that are refused over damage, and for want of memory: "Bounded replayer", docs/SCENARIOS.md.
+//! Turns of a bounded replayer that are refused over damage, and for want of memory: docs/ARCHITECTURE.md, "Followers".
 
 use crate::agents::block_at;
 use crate::archives::{Scenario, Seats, closed, played, played_again};

@@ -1,4 +1,4 @@
-//! Scenarios of docs/SCENARIOS.md, by calls under a lock.
+//! The worked scenarios, by calls under a lock.
 
 use crate::archives::{Scenario, Seats, closed, played, stored};
 use crate::seat::Seat;

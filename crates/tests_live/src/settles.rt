@@ -1,4 +1,4 @@
-//! When a server settles what it wrote: docs/SCENARIOS.md, "Settlings of a server".
+//! When a server settles what it wrote: docs/SERVING.md, "When a frame is durable".
 
 use crate::conversations::{RECORDED, recorded};
 use crate::serving::{options, served_with};

@@ -1,4 +1,4 @@
-//! Blocks from datagrams: the scenario of docs/SCENARIOS.md.
+//! Blocks from datagrams: docs/ARCHITECTURE.md, "Blocks from datagrams".
 
 use crate::vectors::{HELLO_AT_0, HELLO_AT_64, HELLO_AT_128, HELLO_CUT_OFF, NAK_AT_64, SETUP};
 use agents_core::{BlockSource, DatagramEnd, ImageSource};

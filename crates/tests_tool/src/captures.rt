@@ -107,6 +107,7 @@ fn refusal(alloc: Global, recording: i64, span: Span, changed: u64) -> Result<u8
     }
 }
 
+/// A whole recording is exported as a pcap file with a packet for each frame and pad, byte for byte.
 #[test]
 fn two_frames_and_a_pad(rt: HostRuntime) -> Result<(), Fail> {
     let whole = exported(rt.alloc(), None, None)?;
@@ -114,6 +115,7 @@ fn two_frames_and_a_pad(rt: HostRuntime) -> Result<(), Fail> {
     Ok(())
 }
 
+/// An export from one position to another has the frames between them, and none if there are no frames.
 #[test]
 fn a_part_of_a_recording(rt: HostRuntime) -> Result<(), Fail> {
     let middle = exported(rt.alloc(), Some(64), Some(128))?;
@@ -123,6 +125,8 @@ fn a_part_of_a_recording(rt: HostRuntime) -> Result<(), Fail> {
     Ok(())
 }
 
+/// An export is refused for an unknown recording, for positions that are no boundaries or out of range, and for damage in
+/// what it has to read.
 #[test]
 fn what_is_refused(rt: HostRuntime) -> Result<(), Fail> {
     // The byte at 37 lies in the alignment, which nothing reads; that at 68 is the version of the second frame.
@@ -167,6 +171,7 @@ fn goes_to(channel: &str, address: [u8; 4], port: u16) -> bool {
     Destination::of(channel) == Destination { address, port }
 }
 
+/// A channel's endpoint gives the packets' address and port; what it lacks is replaced by 127.0.0.1 and 40123.
 #[test]
 fn destinations(rt: HostRuntime) -> Result<(), Fail> {
     for (channel, address, port) in [

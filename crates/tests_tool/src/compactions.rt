@@ -1,4 +1,4 @@
-//! Archives that are compacted: docs/SCENARIOS.md.
+//! Archives that are compacted: docs/STORAGE.md, "Compaction".
 
 use super::disks::{recorded, with_short_history};
 use super::frames::FullWriter;
@@ -37,7 +37,7 @@ const BANK_A: [u8; 118] = [
 ];
 
 /// Fails where a file of the disk has other bytes, or more.
-fn check_file(disk: &mut MemoryDisk, file: FileId, bytes: &[u8]) -> Result<(), Fail> {
+pub fn check_file(disk: &mut MemoryDisk, file: FileId, bytes: &[u8]) -> Result<(), Fail> {
     let mut read = [0; 200];
     let count = disk.read_at(file, 0, &mut read)?;
     if read.get(..count) == Some(bytes) {
@@ -207,6 +207,7 @@ fn behind_the_command(alloc: Global, disk: MemoryDisk) -> Result<MemoryDisk, Fai
     Ok(disk)
 }
 
+/// `compact` prints `compacted`, stops the active recording, and keeps its frames.
 #[test]
 fn the_command_compacts(rt: HostRuntime) -> Result<(), Fail> {
     let disk = recorded(rt.alloc(), MemoryDisk::new(rt.alloc()))?;
@@ -225,6 +226,7 @@ fn ended(alloc: Global, disk: MemoryDisk) -> Option<Stop> {
     compact(alloc, disk, &mut FullWriter { room: 0 }).err()
 }
 
+/// `compact` ends early if its output takes nothing, or if the other bank is missing.
 #[test]
 fn the_command_ends_early(rt: HostRuntime) -> Result<(), Fail> {
     let disk = recorded(rt.alloc(), MemoryDisk::new(rt.alloc()))?;

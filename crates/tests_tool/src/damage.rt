@@ -57,6 +57,8 @@ fn check(
     check_on(alloc, damaged(alloc, recording, how)?, lines, told)
 }
 
+/// A script over an archive with one damaged recording is answered Damaged where it reads the damage, and as usual
+/// everywhere else.
 #[test]
 fn a_session_over_damage(rt: HostRuntime) -> Result<(), Fail> {
     for how in [Damage::Cut(31), Damage::Cleared(2), Damage::Gone] {

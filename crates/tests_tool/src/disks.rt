@@ -1,4 +1,4 @@
-//! Scripts over disks that are not empty, that fail, or whose archive is refused: docs/SCENARIOS.md.
+//! Scripts over disks that are not empty, that fail, or whose archive is refused: docs/CONTROL.md, "Openings".
 
 use super::reports::damaged;
 use super::scenarios::{check, check_on};
@@ -17,6 +17,8 @@ pub fn recorded(alloc: Global, disk: MemoryDisk) -> Result<MemoryDisk, Fail> {
     )
 }
 
+/// A second script over the same disk finds the recordings, stopped, and extends them, but none of the sessions and
+/// replays of the first.
 #[test]
 fn a_second_script_goes_on(rt: HostRuntime) -> Result<(), Fail> {
     check_on(
@@ -30,6 +32,7 @@ fn a_second_script_goes_on(rt: HostRuntime) -> Result<(), Fail> {
     Ok(())
 }
 
+/// `reopen` stops active recordings, drops unsettled blocks, and ends sessions and replays, but not the merge.
 #[test]
 fn reopened_twice(rt: HostRuntime) -> Result<(), Fail> {
     check(
@@ -43,6 +46,7 @@ fn reopened_twice(rt: HostRuntime) -> Result<(), Fail> {
     )
 }
 
+/// A script reports a damaged frame by its recording and position in `verify` and in each poll that comes to it.
 #[test]
 fn damaged_frame(rt: HostRuntime) -> Result<(), Fail> {
     check_on(
@@ -108,6 +112,7 @@ fn without_catalogue(alloc: Global) -> Result<MemoryDisk, Fail> {
     Ok(disk)
 }
 
+/// If the archive cannot be opened, each archive line is answered Broken, `reopen` gives the reason, and merges go on.
 #[test]
 fn an_archive_that_is_refused(rt: HostRuntime) -> Result<(), Fail> {
     check_on(

@@ -52,6 +52,7 @@ fn end_of_reader(alloc: Global, at_once: usize) -> (Option<EarlyEnd>, bool) {
     )
 }
 
+/// If the input fails, the script ends, and each whole line before the fault has been answered.
 #[test]
 fn a_failing_reader_loses_no_reply(rt: HostRuntime) {
     for at_once in [1, 7, 1_000] {
@@ -70,6 +71,7 @@ fn end_of_writer(alloc: Global, room: usize) -> Option<EarlyEnd> {
     end_of(alloc, b"list 0 0\nlist 0 0\n".as_slice(), &mut writer)
 }
 
+/// If the output takes no more bytes, the script ends with a write fault.
 #[test]
 fn a_failing_writer_ends_the_script(rt: HostRuntime) {
     for room in 0..12 {
@@ -98,6 +100,7 @@ fn a_reply_is_handed_on_before_the_next_read(rt: HostRuntime) {
     }
 }
 
+/// Replies are appended to what the output held before.
 #[test]
 fn what_was_written_before_stays(rt: HostRuntime) -> Result<(), Fail> {
     let mut out = b"before\n".to_vec(rt.alloc())?;

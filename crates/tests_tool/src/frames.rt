@@ -245,6 +245,8 @@ const LISTINGS: [(&'static str, &'static str); 18] = [
     ),
 ];
 
+/// Files of whole, cut, changed and padded frames are listed frame by frame up to the first fault, whatever the reads'
+/// sizes.
 #[test]
 fn listings(rt: HostRuntime) -> Result<(), Fail> {
     for (parts, told) in LISTINGS {
@@ -304,6 +306,7 @@ fn told_before_a_fault(alloc: Global, file: &[u8], told: &[u8]) -> Result<(bool,
     Ok((is_fault, out.as_slice() == told))
 }
 
+/// If the file's reader fails, each frame that was read before is listed.
 #[test]
 fn a_failing_reader_loses_no_line(rt: HostRuntime) -> Result<(), Fail> {
     let file = file_of(rt.alloc(), "pad ones hello-alone")?;
@@ -331,6 +334,7 @@ impl Write for FullWriter {
     }
 }
 
+/// If the output takes no more bytes, the listing ends with a write fault.
 #[test]
 fn a_failing_writer_ends_the_listing(rt: HostRuntime) -> Result<(), Fail> {
     let file = file_of(rt.alloc(), "hello one")?;

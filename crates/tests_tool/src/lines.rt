@@ -68,6 +68,7 @@ const INPUTS: [(&'static str, &'static str); 4] = [
     (" a \r\n\tb\n", " a \r|\tb|"),
 ];
 
+/// Inputs are split at line feeds alone, with or without a last one, whatever the buffer's size.
 #[test]
 fn lines_of_inputs(rt: HostRuntime) -> Result<(), Fail> {
     for (input, lines) in INPUTS {
@@ -100,6 +101,7 @@ fn long_read(alloc: Global, input: &[u8], room: usize) -> Result<(usize, bool), 
     Ok((lines.len(), lines.as_str().ends_with("x|-|quit|")))
 }
 
+/// A line of 262,144 bytes is read, one of a byte more is skipped as too long, and the next line is read.
 #[test]
 fn long_lines(rt: HostRuntime) -> Result<(), Fail> {
     let input = long_input(rt.alloc())?;
@@ -118,6 +120,7 @@ fn too_long(alloc: Global) -> Result<Vec<u8>, Fail> {
     Ok(input)
 }
 
+/// A line that is too long is answered BadLine, and the script goes on.
 #[test]
 fn a_line_that_is_too_long_is_bad(rt: HostRuntime) -> Result<(), Fail> {
     let input = too_long(rt.alloc())?;
@@ -179,6 +182,8 @@ fn input_fails(alloc: Global, fails_at: usize, line: &mut LineBuffer) -> Result<
     Ok(fails_in_turn(&mut reader, fails_at, line))
 }
 
+/// An input that fails in the middle of a line ends there, interrupted reads are tried again, and the whole line before
+/// is given.
 #[test]
 fn an_input_that_fails(rt: HostRuntime) -> Result<(), Fail> {
     let mut line = LineBuffer::new(rt.alloc());
@@ -189,6 +194,7 @@ fn an_input_that_fails(rt: HostRuntime) -> Result<(), Fail> {
     Ok(())
 }
 
+/// An input ends with a read fault once it was read as often as the limit allows.
 #[test]
 fn an_input_that_was_looked_at_too_often(rt: HostRuntime) {
     let mut line = LineBuffer::new(rt.alloc());

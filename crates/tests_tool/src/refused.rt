@@ -1,5 +1,5 @@
 //! Requests for memory that are refused in a script: `trials/refused_memory.py tests` runs the test once for each of its requests,
-//! which it refuses. docs/SCENARIOS.md, "Faults of the disk".
+//! which it refuses. docs/CONTROL.md, "Refusals".
 
 use super::scenarios::behind;
 use disk_core::MemoryDisk;
@@ -133,6 +133,7 @@ fn runs(rt: &impl Abort, alloc: Global) -> Option<()> {
     }
 }
 
+/// A line that is refused memory is answered NoMemory, and the script goes on as if that line were not there.
 #[test]
 fn refused_memory_of_a_script(rt: HostRuntime) {
     let is_run = runs(&rt, rt.alloc()).is_some() || runs(&rt, rt.alloc()).is_some();

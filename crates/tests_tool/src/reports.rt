@@ -55,7 +55,7 @@ fn check_listed(alloc: Global, disk: MemoryDisk, told: &str) -> Result<(), Fail>
 /// What `verify` tells of an archive, and its verdict.
 fn verified<A: Verifiable>(alloc: Global, archive: &mut A) -> Result<(Vec<u8>, Verdict), Fail> {
     let mut out = Vec::new(alloc);
-    match verify_recordings(alloc, archive, &mut out, &mut Unobserved) {
+    match verify_recordings(alloc, archive, None, &mut out, &mut Unobserved) {
         Ok(verdict) => Ok((out, verdict)),
         Err(_) => Err(Fail::new("the verification ended early")),
     }
@@ -88,6 +88,7 @@ fn check_verified(
     check_archive(alloc, &mut engine, told, verdict)
 }
 
+/// `list` prints each recording's descriptor, the stopped and the active one, and their count.
 #[test]
 fn each_recording_is_listed(rt: HostRuntime) -> Result<(), Fail> {
     check_listed(
@@ -98,6 +99,7 @@ fn each_recording_is_listed(rt: HostRuntime) -> Result<(), Fail> {
     )
 }
 
+/// `verify` prints how many frames each recording has, and its verdict is whole.
 #[test]
 fn each_recording_is_verified(rt: HostRuntime) -> Result<(), Fail> {
     check_verified(
@@ -108,6 +110,7 @@ fn each_recording_is_verified(rt: HostRuntime) -> Result<(), Fail> {
     )
 }
 
+/// `verify` reports damage in the first recording, and verifies the next one all the same.
 #[test]
 fn the_first_is_damaged(rt: HostRuntime) -> Result<(), Fail> {
     check_verified(
@@ -118,6 +121,7 @@ fn the_first_is_damaged(rt: HostRuntime) -> Result<(), Fail> {
     )
 }
 
+/// `verify` reports damage in the last recording after it has verified those before.
 #[test]
 fn the_last_is_damaged(rt: HostRuntime) -> Result<(), Fail> {
     check_verified(
@@ -128,12 +132,14 @@ fn the_last_is_damaged(rt: HostRuntime) -> Result<(), Fail> {
     )
 }
 
+/// `verify` of an archive without recordings prints nothing, and its verdict is whole.
 #[test]
 fn there_is_no_recording(rt: HostRuntime) -> Result<(), Fail> {
     let disk = check_on(rt.alloc(), MemoryDisk::new(rt.alloc()), "list 0 1", "end 0")?;
     check_verified(rt.alloc(), disk, "", Verdict::Whole)
 }
 
+/// `list` of an archive without recordings prints `end 0`.
 #[test]
 fn an_empty_list(rt: HostRuntime) -> Result<(), Fail> {
     let disk = check_on(rt.alloc(), MemoryDisk::new(rt.alloc()), "list 0 1", "end 0")?;

@@ -1,4 +1,4 @@
-//! The worked scenarios, from lines to replies: docs/SCENARIOS.md. In a script a vector stands by its name.
+//! The worked scenarios, from lines to replies: docs/CONTROL.md. In a script a vector of docs/PROTOCOL.md is named.
 
 use disk_core::MemoryDisk;
 use std::alloc::Global;
@@ -84,7 +84,7 @@ fn add_line(text: &mut String, line: &str) -> Result<(), Fail> {
 }
 
 /// The text of these lines, which stand apart by `; ` here.
-fn text_of(alloc: Global, lines: &str) -> Result<String, Fail> {
+pub fn text_of(alloc: Global, lines: &str) -> Result<String, Fail> {
     let mut text = String::new(alloc);
     for line in lines.split("; ") {
         add_line(&mut text, line)?;
@@ -152,6 +152,7 @@ pub fn check(alloc: Global, lines: &str, told: &str) -> Result<(), Fail> {
     Ok(())
 }
 
+/// A frame that is settled is replayed, byte for byte.
 #[test]
 fn first_recording_and_replay(rt: HostRuntime) -> Result<(), Fail> {
     check(
@@ -161,6 +162,7 @@ fn first_recording_and_replay(rt: HostRuntime) -> Result<(), Fail> {
     )
 }
 
+/// A pad at a term's end is recorded and replayed as a frame, and the stream goes on in the next term.
 #[test]
 fn pad_at_a_terms_end(rt: HostRuntime) -> Result<(), Fail> {
     check(
@@ -172,6 +174,7 @@ fn pad_at_a_terms_end(rt: HostRuntime) -> Result<(), Fail> {
     )
 }
 
+/// A replay with a length ends with the frame in which its last byte is.
 #[test]
 fn bounded_part_of_a_recording(rt: HostRuntime) -> Result<(), Fail> {
     check(
@@ -183,6 +186,7 @@ fn bounded_part_of_a_recording(rt: HostRuntime) -> Result<(), Fail> {
     )
 }
 
+/// `poll-to` gives no frame that ends past its limit, and is done once the replay's length is given.
 #[test]
 fn bounded_part_held_back(rt: HostRuntime) -> Result<(), Fail> {
     check(
@@ -194,6 +198,7 @@ fn bounded_part_held_back(rt: HostRuntime) -> Result<(), Fail> {
     )
 }
 
+/// A block whose frame length is below 32, or past the block's bytes, is refused as BadFrame.
 #[test]
 fn bad_frame_headers(rt: HostRuntime) -> Result<(), Fail> {
     check(
@@ -203,6 +208,7 @@ fn bad_frame_headers(rt: HostRuntime) -> Result<(), Fail> {
     )
 }
 
+/// A recording without frames is listed, replayed as empty, and done once it is stopped.
 #[test]
 fn empty_recording(rt: HostRuntime) -> Result<(), Fail> {
     check(
@@ -216,6 +222,7 @@ fn empty_recording(rt: HostRuntime) -> Result<(), Fail> {
     )
 }
 
+/// A truncation is refused for an active recording and inside a frame, and else removes the frames from there on.
 #[test]
 fn truncation(rt: HostRuntime) -> Result<(), Fail> {
     check(
@@ -229,6 +236,7 @@ fn truncation(rt: HostRuntime) -> Result<(), Fail> {
     )
 }
 
+/// An extension has to begin where the recording ends; it opens a new session, and the old one is stale.
 #[test]
 fn extension_after_a_truncation(rt: HostRuntime) -> Result<(), Fail> {
     check(
@@ -242,6 +250,7 @@ fn extension_after_a_truncation(rt: HostRuntime) -> Result<(), Fail> {
     )
 }
 
+/// A purge of segments is refused while a replay is open on them, and sweeps then remove one file each.
 #[test]
 fn purge_of_segments(rt: HostRuntime) -> Result<(), Fail> {
     check(
@@ -255,6 +264,7 @@ fn purge_of_segments(rt: HostRuntime) -> Result<(), Fail> {
     )
 }
 
+/// A stop drops a written block that is not settled, and ends the session.
 #[test]
 fn unsettled_block_lost_at_a_stop(rt: HostRuntime) -> Result<(), Fail> {
     check(
@@ -264,6 +274,7 @@ fn unsettled_block_lost_at_a_stop(rt: HostRuntime) -> Result<(), Fail> {
     )
 }
 
+/// One settle records several written blocks, and blocks that are not settled are lost at a reopen.
 #[test]
 fn blocks_settled_together(rt: HostRuntime) -> Result<(), Fail> {
     check(
@@ -276,6 +287,7 @@ fn blocks_settled_together(rt: HostRuntime) -> Result<(), Fail> {
     )
 }
 
+/// A block in the next segment is refused as NeedSettle until the blocks before it are settled.
 #[test]
 fn settle_before_the_next_segment(rt: HostRuntime) -> Result<(), Fail> {
     check(
@@ -286,6 +298,7 @@ fn settle_before_the_next_segment(rt: HostRuntime) -> Result<(), Fail> {
     )
 }
 
+/// A recording is started, found, stopped and purged, and its id is not used again.
 #[test]
 fn session_of_all_requests(rt: HostRuntime) -> Result<(), Fail> {
     check(
@@ -299,6 +312,7 @@ fn session_of_all_requests(rt: HostRuntime) -> Result<(), Fail> {
     )
 }
 
+/// A poll gives at most as many frames as it asks for, an empty replay is done at once, and a list begins at its id.
 #[test]
 fn polls_and_listings(rt: HostRuntime) -> Result<(), Fail> {
     check(
@@ -312,6 +326,7 @@ fn polls_and_listings(rt: HostRuntime) -> Result<(), Fail> {
     )
 }
 
+/// A line that has several faults is refused by the first of docs/CONTROL.md, "Refusals".
 #[test]
 fn refusals_in_their_order(rt: HostRuntime) -> Result<(), Fail> {
     check(
@@ -329,6 +344,7 @@ fn refusals_in_their_order(rt: HostRuntime) -> Result<(), Fail> {
     )
 }
 
+/// A merge gives each frame once, in order, though one comes from the replay and from the live stream.
 #[test]
 fn merge_into_the_live_stream(rt: HostRuntime) -> Result<(), Fail> {
     check(
@@ -339,6 +355,7 @@ fn merge_into_the_live_stream(rt: HostRuntime) -> Result<(), Fail> {
     )
 }
 
+/// Merge lines are refused without a merge, and for malformed hex, frames, term lengths and positions.
 #[test]
 fn merge_lines_are_refused(rt: HostRuntime) -> Result<(), Fail> {
     check(
@@ -350,6 +367,8 @@ fn merge_lines_are_refused(rt: HostRuntime) -> Result<(), Fail> {
     )
 }
 
+/// An empty script, an empty line, a last line without a line feed and lines after `quit` are answered as docs/CONTROL.md
+/// says.
 #[test]
 fn lines_at_the_edges_of_a_script(rt: HostRuntime) -> Result<(), Fail> {
     for (script, told) in [

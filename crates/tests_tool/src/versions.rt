@@ -1,4 +1,4 @@
-//! Archives whose catalogue is of version 1, and what becomes of them by a compaction: docs/SCENARIOS.md.
+//! Archives whose catalogue is of version 1, and what a compaction makes of them: docs/STORAGE.md, "Compaction".
 
 use super::compactions::{CHOICES, check_bank, check_stopped};
 use super::scenarios::check_on;
@@ -58,7 +58,7 @@ fn put(disk: &mut MemoryDisk, file: FileId, bytes: &[u8]) -> Result<(), Fail> {
 }
 
 /// A disk with the archive of version 1: a recording with one frame, which is active.
-fn of_version_1(alloc: Global) -> Result<MemoryDisk, Fail> {
+pub fn of_version_1(alloc: Global) -> Result<MemoryDisk, Fail> {
     let mut disk = MemoryDisk::new(alloc);
     let segment = FileId::Segment {
         recording: 0,

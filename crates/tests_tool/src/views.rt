@@ -46,7 +46,7 @@ pub fn check_verified(
     verdict: Verdict,
 ) -> Result<(), Fail> {
     let mut out = Vec::new(alloc);
-    let Ok((_, finding)) = verify_view(alloc, disk, &mut out, &mut Unobserved) else {
+    let Ok((_, finding)) = verify_view(alloc, disk, None, &mut out, &mut Unobserved) else {
         return Err(Fail::new("the verification ended early"));
     };
     if out.as_slice() == told.as_bytes() && finding.verdict == verdict && !finding.is_moving {
@@ -55,6 +55,7 @@ pub fn check_verified(
     Err(Fail::new(told))
 }
 
+/// `list --read-only` shows an active recording as active, and does not stop it.
 #[test]
 fn an_active_recording_is_listed_as_active(rt: HostRuntime) -> Result<(), Fail> {
     let told = b"recording 0 1000 2000 0 64 42 131072 65536 1408 7 1001 c\n\
@@ -66,6 +67,7 @@ fn an_active_recording_is_listed_as_active(rt: HostRuntime) -> Result<(), Fail> 
     Ok(())
 }
 
+/// `list --read-only` changes nothing on the disk.
 #[test]
 fn nothing_is_changed(rt: HostRuntime) -> Result<(), Fail> {
     let disk = after(rt.alloc(), SCRIPT)?;
@@ -75,12 +77,14 @@ fn nothing_is_changed(rt: HostRuntime) -> Result<(), Fail> {
     Ok(())
 }
 
+/// `verify --read-only` prints how many frames each recording has.
 #[test]
 fn each_recording_is_verified(rt: HostRuntime) -> Result<(), Fail> {
     let disk = after(rt.alloc(), SCRIPT)?;
     check_verified(rt.alloc(), disk, "verified 1\nverified 1\n", Verdict::Whole)
 }
 
+/// `verify --read-only` reports damage, and verifies the other recordings.
 #[test]
 fn damage_is_told(rt: HostRuntime) -> Result<(), Fail> {
     let disk = damaged(after(rt.alloc(), SCRIPT)?, 0)?;
@@ -88,6 +92,7 @@ fn damage_is_told(rt: HostRuntime) -> Result<(), Fail> {
     check_verified(rt.alloc(), disk, told, Verdict::Refused)
 }
 
+/// A disk without an archive is refused, and no archive is made on it.
 #[test]
 fn no_archive_is_refused(rt: HostRuntime) -> Result<(), Fail> {
     let disk = ReadOnly::new(MemoryDisk::new(rt.alloc()));
@@ -95,6 +100,7 @@ fn no_archive_is_refused(rt: HostRuntime) -> Result<(), Fail> {
     Ok(())
 }
 
+/// A disk that is only read refuses each change, counts these as faults, and takes a sync.
 #[test]
 fn a_disk_that_is_only_read_refuses_changes(rt: HostRuntime) -> Result<(), Fail> {
     let mut disk = ReadOnly::new(after(rt.alloc(), SCRIPT)?);
@@ -123,6 +129,7 @@ fn with_closed_gate(disk: MemoryDisk, gate: u64) -> Result<MemoryDisk, Fail> {
 }
 
 // Gates of SCRIPT: the Starts at 32 and 89, the Settles at 146 and 166, the Stop at 186, and the closed one at 206.
+/// An entry past a closed gate that may have been answered is reported, with whether others follow it.
 #[test]
 fn an_entry_past_a_closed_gate(rt: HostRuntime) -> Result<(), Fail> {
     let active = SCRIPT.strip_suffix("stop 0 2000\n").unwrap_or("");

@@ -91,6 +91,8 @@ line_done old s b lines.Compact outcome new of_disk stands told obeys is =
     (k.after, k.banks, k.stands, k.told, ((k.ends, is.1), k.meanwhile))
 line_done old s b (lines.Merge line) outcome new of_disk stands told obeys is =
     same_archive old new s b (lines.Merge line) outcome is.1 of_disk stands told (is.0, refl, refl, ap (λ (x : SeenArchive). life_of x) is.1)
+line_done old s b (lines.Follow fields) outcome new of_disk stands told obeys is =
+    same_archive old new s b (lines.Follow fields) outcome (ap (λ (x : ScriptState SeenArchive). x.archive) is.1) of_disk stands told (is.0, same_scene old new s b is.1)
 line_done old s b lines.Quit outcome new of_disk stands told obeys is =
     same_archive old new s b lines.Quit outcome (ap (λ (x : ScriptState SeenArchive). x.archive) is.1) of_disk stands told (is.0, same_scene old new s b is.1)
 

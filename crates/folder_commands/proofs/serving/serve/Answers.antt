@@ -32,4 +32,5 @@ pub returns : goal.returns
 returns g c =
     let begins = begins_watched g.given c.in_ok-disk.disk c.new-disk.result c.in_ok-disk.ensures.begun c.new-disk.ensures in
     served g.given c.args.words.now (sees c.leaving.result) _ _ c.in_ok-options.ensures c.in_ok-ports.ensures (leaves c.leaving.result) _ _ (ending_in c.serve_disk-disk.result.1) (ends_with c.leaving.result) begins
-    (c.leaving.ensures.left ∙ c.closed.ensures) c.leaving.ensures.ending c.serve_disk-disk.ensures
+    (c.leaving.ensures.left ∙ c.closed.ensures) c.leaving.ensures.ending
+    (subst (λ (o : ServeOptions). ServesOver o.is_strict _ _ (ending_in c.serve_disk-disk.result.1)) c.begun-options-2.ensures c.serve_disk-disk.ensures)
