@@ -51,7 +51,8 @@ impl Ending {
         }
     }
 
-    fn has_ended<T: Reporter>(&self, shared: &Shared<T>) -> bool {
+    /// Whether serving has ended, whatever ended it.
+    pub fn has_ended<T: Reporter>(&self, shared: &Shared<T>) -> bool {
         self.is_closed() || shared.has_stopped() || shared.has_ended()
     }
 }

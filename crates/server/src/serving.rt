@@ -11,7 +11,9 @@ ghost use Rattle.server.specs.Serving.{EndsHistory, EndsOrLacks, EndsUpTo, IsSer
 use crate::clients::{serve_clients, serve_unopened};
 use crate::connections::{ClientOptions, Connections, Port};
 use crate::ends::Ends;
+use crate::followers::Followers;
 use crate::listener::{Ending, SharedListener};
+use crate::openings::Openings;
 use crate::options::ServeOptions;
 use crate::place::{CONSUMERS, Places};
 use crate::served::{Served, stuck_by, unopened_stop};
@@ -161,11 +163,16 @@ pub fn serve_with<
 /// Serves the archive of a disk as `serve_with`. Where several sessions are to settle and syncs are slow, their segment files are
 /// flushed first, beside the archive: by as many further threads as the flusher wants, 8 at most. It is to flush files of that
 /// disk. docs/SERVING.md, "When a frame is durable".
+///
+/// Connections may follow a recording, if the disk can be opened again and more than one client is served or images are listed, and
+/// those of clients that only read, if it can: 60
+/// at a time at most, each by a thread of its own, which reads by an opening of its own. docs/SERVING.md, "Consumers". Costs a
+/// megabyte more for each.
 pub fn serve_flushing<
     R: Threads + Wait + Clock + Sync,
     D: Disk + Drop + Send,
     T: Reporter + Drop + Send + Sync,
-    F: Flusher + Sync,
+    F: Flusher + Openings + Sync,
 >(
     rt: &R,
     alloc: Global,
@@ -187,12 +194,15 @@ pub fn serve_flushing<
     let (Ok(tools), Ok(seat_room)) = (Tools::new(alloc, options), SeatRoom::new(alloc)) else {
         return Err(ScriptFault::Memory(disk));
     };
+    let places = places_for(options, ends.consumers.is_some(), flusher);
+    let Ok(followers) = Followers::new(alloc, places.followers) else {
+        return Err(ScriptFault::Memory(disk));
+    };
     let (archive, beginning) = match ScriptArchive::of_disk(alloc, disk) {
         Ok(found) => found,
         Err(disk) => return Err(ScriptFault::Memory(disk)),
     };
-    let places = Places::of(options.clients, ends.consumers.is_some());
-    let lines = connections_of(rt, alloc, shared, ends, options, &places);
+    let lines = connections_of(rt, alloc, shared, ends, options, places, followers);
     let serving = Serving {
         rt,
         alloc,
@@ -213,6 +223,18 @@ pub fn serve_flushing<
     handed_back(served, end)
 }
 
+/// How many clients and followers there are. Connections may follow if the disk can be opened again, and more than one client is
+/// served, images are listed, or clients are served that only read.
+fn places_for<O: Openings>(
+    options: &ServeOptions<'_>,
+    has_consumers: bool,
+    openings: &O,
+) -> Places {
+    let serves_several = options.clients.unwrap_or(1) > 1 || options.window.is_some();
+    let follows = (serves_several || has_consumers) && openings.can_open();
+    Places::of(options.clients, has_consumers, follows)
+}
+
 /// What the threads that serve connections share, for so many clients at these ends.
 fn connections_of<R: Wait, T: Reporter>(
     rt: &R,
@@ -220,17 +242,20 @@ fn connections_of<R: Wait, T: Reporter>(
     shared: Shared<T>,
     ends: Ends,
     options: &ServeOptions<'_>,
-    places: &Places,
-) -> Connections<T> {
+    places: Places,
+    followers: Followers,
+) -> Connections<T>
+    ensures { result.places ≡ places }
+{
     let ending = Ending::new();
     let control = Port {
         listener: SharedListener::new(rt, ends.control, places.clients, &ending),
-        options: ClientOptions::of(options, places),
+        options: ClientOptions::of(options, &places),
     };
     let consumers = match ends.consumers {
         Some(listener) => Some(Port {
             listener: SharedListener::new(rt, listener, CONSUMERS, &ending),
-            options: ClientOptions::of_consumers(options),
+            options: ClientOptions::of_consumers(options, &places),
         }),
         None => None,
     };
@@ -241,7 +266,8 @@ fn connections_of<R: Wait, T: Reporter>(
         ending,
         control,
         consumers,
-        clients: places.clients,
+        places,
+        followers,
     }
 }
 
@@ -260,7 +286,7 @@ fn serve_archive<
     R: Threads + Wait + Clock + Sync,
     D: Disk + Drop + Send,
     T: Reporter + Drop + Send + Sync,
-    F: Flusher + Sync,
+    F: Flusher + Openings + Sync,
 >(
     with: &Serving<'_, R, T, F>,
     tools: Tools,
@@ -319,7 +345,7 @@ fn serve_open<
     R: Threads + Wait + Clock + Sync,
     D: Disk + Drop + Send,
     T: Reporter + Drop + Send + Sync,
-    F: Flusher + Sync,
+    F: Flusher + Openings + Sync,
 >(
     with: &Serving<'_, R, T, F>,
     tools: Tools,
@@ -335,13 +361,13 @@ fn serve_open<
     serve_named::<D, Brand, R, T, F>(with, tools, seat_room, opened, engine)
 }
 
-/// Serves an archive that has a pass for the thread that records and one for each client.
+/// Serves an archive that has a pass for the thread that records and one for each client and follower.
 fn serve_named<
     D: Disk + Drop + Send,
     A: Naming + Send + Sync,
     R: Threads + Wait + Clock + Sync,
     T: Reporter + Drop + Send + Sync,
-    F: Flusher + Sync,
+    F: Flusher + Openings + Sync,
 >(
     with: &Serving<'_, R, T, F>,
     tools: Tools,
@@ -350,14 +376,14 @@ fn serve_named<
     engine: Engine<D>,
 ) -> (Served<D>, Result<(), EarlyEnd>)
     requires named { opened.table ≡ A.table }
-    requires counts { A.passes ≡ 1 + with.now.places.count }
+    requires counts { A.passes ≡ 1 + with.now.places.count + with.now.places.followers }
     requires stores { opened.keeps ≡ A.keeps }
     requires opens { engine_seen D.life (view_of engine []) ≡ A.opening }
     ensures { EndsOrLacks (D.life engine.archive.storage.disk) A.opening with.now.is_strict
         (D.life result.0.disk) result.0.stop result.1 }
 {
     let places = with.places;
-    let count = 1 + places.count;
+    let count = 1 + places.count + places.followers;
     let Ok(room) = Vec::with_capacity(with.alloc, count) else {
         return lacking(engine);
     };
@@ -391,7 +417,7 @@ fn serve_shared<
     A: Naming + Send + Sync,
     R: Threads + Wait + Clock + Sync,
     T: Reporter + Drop + Send + Sync,
-    F: Flusher + Sync,
+    F: Flusher + Openings + Sync,
 >(
     with: &Serving<'_, R, T, F>,
     tools: Tools,
@@ -414,6 +440,7 @@ fn serve_shared<
         socket,
         shared,
         lines,
+        flusher,
         ..
     } = with;
     thread::scope(
@@ -441,7 +468,7 @@ fn serve_shared<
                     Err(EarlyEnd::Memory),
                 );
             };
-            let clients = serve_clients(*rt, lines, archive, clients);
+            let clients = serve_clients(*rt, lines, *flusher, archive, clients);
             shared.end(socket);
             let is_whole = receiver.join(*rt);
             (
@@ -456,7 +483,7 @@ fn serve_shared<
 fn serve_closed<
     R: Threads + Wait + Clock + Sync,
     T: Reporter + Drop + Send + Sync,
-    F: Flusher + Sync,
+    F: Flusher + Openings + Sync,
 >(with: &Serving<'_, R, T, F>, tools: Tools) -> Result<(), EarlyEnd> {
     let Tools {
         images,
@@ -464,8 +491,9 @@ fn serve_closed<
         buffer,
         batch: _,
     } = tools;
-    // No thread records: nobody waits for one.
+    // No thread records, and none sends frames: nobody waits for one.
     with.shared.queue.leave(with.rt);
+    with.lines.followers.end(with.rt);
     thread::scope(thread::scope_env(), with.rt, |scope| {
         let receiver = scope.spawn(move || receive(with, images, senders, buffer));
         let Ok(receiver) = receiver else {
