@@ -5,6 +5,8 @@ pub mod Answering
 pub mod Following
 -- Clients at a time with their passes, and where the lines are that the server answers by itself.
 pub mod Clients
+pub mod Consumers
+pub mod ConsumerLines
 pub mod OwnLines
 -- What a connection of another protocol begins with.
 pub mod FirstBytes

@@ -105,7 +105,11 @@ pub(crate) fn send_all<
                 }
                 quiet = Instant::now(following.rt).ok();
             }
-            following.with.shared.settles.wait(following.rt, settled, LOOK);
+            following
+                .with
+                .shared
+                .settles
+                .wait(following.rt, settled, LOOK);
         } else {
             quiet = Instant::now(following.rt).ok();
         }
