@@ -45,8 +45,8 @@ moved_parts obeys image d replay next stream (sign told bytes ∷ xs) p q (told_
 pub sent_then : (stream : FollowedStream) (a b c : Life) (x y z : CursorView) (k l m : Option (List ℕ)) (xs ys : List Part) → IsSent stream a b x y k l xs → IsSent stream b c y z l m ys → IsSent stream a c x z k m (xs ++ ys)
 sent_then stream a b c x y z k l m xs ys one two =
     let second : ArePartsOf c.obeys (reads a.now) x.known.descriptor x.replay stream y.replay.next ys z.replay.next =
-      moved_parts c.obeys (reads a.now) x.known.descriptor x.replay y.replay.next stream ys y.replay.next z.replay.next
-      (subst (λ (w : Files × (Descriptor × OpenReplay)). ArePartsOf c.obeys (reads w.0) w.1.0 w.1.1 stream y.replay.next ys z.replay.next) (λ i. ((one.quiet).now i, (one.descriptor i, one.replay i))) two.are) in
+    moved_parts c.obeys (reads a.now) x.known.descriptor x.replay y.replay.next stream ys y.replay.next z.replay.next
+    (subst (λ (w : Files × (Descriptor × OpenReplay)). ArePartsOf c.obeys (reads w.0) w.1.0 w.1.1 stream y.replay.next ys z.replay.next) (λ i. ((one.quiet).now i, (one.descriptor i, one.replay i))) two.are) in
     record {
       appended = subst (Appends k m) (sym (bytes_then xs ys)) (appends_then k l m (bytes_of_parts xs) (bytes_of_parts ys) one.appended two.appended);
       are = parts_then (reads a.now) x.known.descriptor x.replay stream b.obeys c.obeys (two.quiet).obeyed xs ys x.replay.next y.replay.next z.replay.next one.are second;

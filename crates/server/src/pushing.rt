@@ -67,14 +67,7 @@ impl FollowedStream {
 
 /// Sends the frames of a replay as they are settled, and a heartbeat each 100 milliseconds while nothing comes, until there is no
 /// more.
-pub(crate) fn send_all<
-    D: Disk,
-    A: Naming,
-    E: Disk + Drop,
-    R: Wait + Clock,
-    T: Reporter,
-    W: Write,
->(
+pub(crate) fn send_all<D: Disk, A: Naming, E: Disk + Drop, R: Wait + Clock, T: Reporter, W: Write>(
     following: &Following<'_, D, A, R, T>,
     stream: &FollowedStream,
     connection: &FollowerConnection<'_, R, T>,
