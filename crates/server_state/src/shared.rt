@@ -18,8 +18,10 @@ use crate::origins::{Found, Origin, Origins};
 use crate::pairing::{FedSession, ImageKey, Misfit, Pairing};
 use crate::queue::Queue;
 use crate::reporter::Reporter;
+use crate::resume_news::ResumeNews;
 use crate::resuming::{Resumes, Stand, is_resumable};
 use crate::session_news::SessionNews;
+use crate::settle_notice::SettleNotice;
 use archive_model::Reply;
 use control_core::Event;
 use frame_core::Refusal;
@@ -87,6 +89,8 @@ pub struct Shared<T> {
     origins: Mutex<Origins>,
     /// Blocks on their way.
     pub queue: Queue,
+    /// Wakes those who wait until something more is settled.
+    pub settles: SettleNotice,
     /// What is counted.
     pub counts: Counts,
     /// What is counted for the metrics alone.
@@ -120,6 +124,7 @@ impl<T: Reporter> Shared<T> {
             pairing: Mutex::new(Pairing::new(pairs, options.gives_back)),
             origins: Mutex::new(Origins::new()),
             queue: Queue::new(alloc)?,
+            settles: SettleNotice::new(),
             counts: Counts::new(alloc)?,
             meter: Meter::new(options.is_measured),
             checkpointing: Checkpointing::new(options.makes_checkpoints),
@@ -138,6 +143,22 @@ impl<T: Reporter> Shared<T> {
     /// Reports what happened.
     pub fn report(&self, happening: &Happening<'_>) {
         self.reporter.report(happening);
+    }
+
+    /// Reports something of a publication that came back, and counts it.
+    pub fn report_resume(&self, news: ResumeNews) {
+        match &news {
+            ResumeNews::Resumes { .. } => self.counts.resumed.add(1),
+            ResumeNews::Filled { bytes, .. } => self.counts.resumed_bytes.add(*bytes),
+            ResumeNews::Hole { from, to, .. } => {
+                self.counts.holes.add(1);
+                self.counts
+                    .hole_bytes
+                    .add(to.saturating_sub(*from).unsigned_abs());
+            }
+            ResumeNews::WentBack { .. } => {}
+        }
+        self.report(&Happening::Resume(news));
     }
 
     /// Reports the end, with what was counted.
@@ -187,6 +208,7 @@ impl<T: Reporter> Shared<T> {
                 status_messages: received.status_messages,
                 images: counted.images,
             },
+            resumes: self.counts.resumes(),
             clients: self.meter.clients(counted.connections),
             recordings,
             images,
@@ -248,6 +270,10 @@ impl<T: Reporter> Shared<T> {
                     Reply::Started { session, .. } | Reply::Extended { session } => {
                         self.report_session(rt, *session);
                         true
+                    }
+                    Reply::Settled { .. } => {
+                        self.settles.note(rt);
+                        false
                     }
                     _ => false,
                 }
@@ -485,6 +511,7 @@ impl<T: Reporter> Shared<T> {
     /// A session settled, and is recorded up to a position.
     pub fn settled<R: Wait>(&self, rt: &R, session: i64, position: i64) {
         settle(&mut self.pairing.lock(rt).pairs, session, position);
+        self.settles.note(rt);
     }
 
     /// The open session that writes a recording is to settle at once, if there is one. Its seat. Waits for nothing.

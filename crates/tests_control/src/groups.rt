@@ -43,8 +43,8 @@ fn check(alloc: Global, room: u32, sessions: &[i64], text: &str) -> Result<(), F
     }
 }
 
-/// A group settles each session that has blocks, gives the position of those without, and counts one entry each; it is
-/// refused without room, or with a number twice.
+/// A group settles each session that has blocks, gives the position of the others, and counts one entry for each settled
+/// one. It is refused without room, or with a number twice.
 #[test]
 fn sessions_that_are_settled_together(rt: HostRuntime) -> Result<(), Fail> {
     check(rt.alloc(), 1, &[0, 1], "[Some(64), Some(0)] 3")?;

@@ -505,8 +505,8 @@ fn printed(alloc: Global, reply: &Reply) -> Result<Vec<u8>, Refusal> {
     }
 }
 
-/// A refused request for memory is told as NoMemory, and the call may be made again: trials/refused_memory.py runs
-/// this test for each of its requests for memory, which it refuses.
+/// A refused request for memory is answered NoMemory, and the call may be made again. trials/refused_memory.py refuses
+/// each of its requests in turn.
 #[test]
 fn refused_memory_is_told(rt: HostRuntime) -> Result<(), Fail> {
     for line in [START_FROM_LINE, b"block 0 00ff", b"merge-live 00ff"] {

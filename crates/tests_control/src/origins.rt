@@ -246,7 +246,7 @@ fn tells_again(alloc: Global, desk: &Desk) -> bool {
     }
 }
 
-/// A refused request for memory is told as NoMemory, and the source may be asked for again.
+/// A refused request for memory is answered NoMemory, and the source may be asked for again.
 #[test]
 fn refused_memory_at_a_source(rt: HostRuntime) -> Result<(), Fail> {
     let desk = made_again(rt.alloc())?;

@@ -106,7 +106,7 @@ fn started(alloc: Global) -> Result<Request, Refusal> {
     }
 }
 
-/// A refused request for memory is told as NoMemory, and the decision may be asked for again.
+/// A refused request for memory is answered NoMemory, and the decision may be asked for again.
 #[test]
 fn refused_memory_at_a_decision(rt: HostRuntime) -> Result<(), Fail> {
     let request = started(rt.alloc())?;

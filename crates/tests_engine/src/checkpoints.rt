@@ -1,5 +1,5 @@
-//! Checkpoints of an archive whose recordings are active, with blocks that are not settled and a replay that is open: each change
-//! of the disk stopped, each call failed, and what is refused. docs/STORAGE.md, "Checkpoints".
+//! Checkpoints of an archive with active recordings, unsettled blocks and an open replay: each change of the disk
+//! stopped, each call failed, and what is refused. docs/STORAGE.md, "Checkpoints".
 
 use crate::calls::{answer, answers, event_in, made};
 use crate::runs::text_found;
@@ -182,8 +182,8 @@ fn catalogue_of(alloc: Global, mut disk: MemoryDisk) -> Result<(u64, usize), Ref
     Ok((log.epoch(), log.counted()))
 }
 
-/// After one to three checkpoints, sessions, unsettled blocks and the open replay go on as without one, and active
-/// recordings keep being counted in the new history.
+/// After one to three checkpoints sessions, unsettled blocks and the open replay go on as without one. Active recordings
+/// count in the new history.
 #[test]
 fn all_goes_on_in_the_new_bank(rt: HostRuntime) -> Result<(), Fail> {
     let mut plain = before(rt.alloc(), MemoryDisk::new(rt.alloc()), 0)?;
@@ -205,7 +205,7 @@ fn all_goes_on_in_the_new_bank(rt: HostRuntime) -> Result<(), Fail> {
     Ok(())
 }
 
-/// A full history refuses a settle, but no checkpoint, behind which the settle has room.
+/// A full history refuses a settle, but no checkpoint, after which the settle has room.
 #[test]
 fn a_full_history_goes_on(rt: HostRuntime) -> Result<(), Fail> {
     let mut engine = made(rt.alloc(), MemoryDisk::new(rt.alloc()), 4)?;

@@ -1,5 +1,5 @@
-//! Two compactions after a script, each stopped at each of its changes: what a crash leaves has the archive's state, and which
-//! bank it is in. docs/STORAGE.md, "Compaction".
+//! Two compactions after a script, each stopped at each of its changes: which state a crash leaves, and in which bank.
+//! docs/STORAGE.md, "Compaction".
 
 use crate::reference::text_of_book;
 use crate::runs::{Run, compacts, text_found};
@@ -97,8 +97,8 @@ fn behind(alloc: Global) -> Result<(MemoryDisk, Vec<u8>), Refusal> {
     Ok((engine.into_disk(), text))
 }
 
-/// After a stop at any change of a compaction, and at any change of the next, a crash leaves the archive's state, in the
-/// bank whose gate was opened last.
+/// After a stop at any change of two compactions in a row a crash leaves the archive's state, in the bank whose gate was
+/// opened last.
 #[test]
 fn each_stop_of_two_compactions_leaves_the_state(rt: HostRuntime) -> Result<(), Fail> {
     let (disk, text) = behind(rt.alloc())?;

@@ -155,7 +155,7 @@ fn broken(rt: &impl Abort, alloc: Global) -> Result<(bool, MemoryDisk), Fail> {
     Ok((is_broken, engine.into_disk()))
 }
 
-/// Behind a fault the archive takes nothing more, and goes on with what it read; another opening makes it good.
+/// After a fault the archive takes nothing more, and goes on with what it read; another opening makes it good.
 #[test]
 fn a_fault_breaks_the_archive(rt: HostRuntime) -> Result<(), Fail> {
     let (is_broken, disk) = broken(&rt, rt.alloc())?;
@@ -231,9 +231,8 @@ fn calls_to_begin(alloc: Global, disk: MemoryDisk) -> Result<(u64, Option<i64>),
     }
 }
 
-/// The disk is listed once: seven calls make an archive, and one that is there is opened by no more than opening takes,
-/// which lists, syncs a segment file and two banks, reads the header of each bank and the one in use by one call each, and
-/// commits a restart by four.
+/// A disk is listed once. Seven calls make an archive. One that is there is opened by the calls of an opening alone: a
+/// listing, syncs of a segment file and two banks, three reads, and four calls for a restart.
 #[test]
 fn a_disk_is_listed_once(rt: HostRuntime) -> Result<(), Fail> {
     let calls = calls_to_begin(rt.alloc(), MemoryDisk::new(rt.alloc()))?;

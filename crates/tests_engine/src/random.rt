@@ -1,7 +1,7 @@
-//! 200 calls by chance, with a stop after each change of the disk, three crashes and an opening each: what is opened is
-//! what the plain book makes of the calls that were accepted, or of these and the one in flight. And compactions among such
-//! calls, each stopped after each of its changes: what is opened is what the book makes of the calls before. And replays
-//! between 500 such calls: they give the frames of the book.
+//! 200 random calls with a stop after each change of the disk, three crashes and an opening each. What is opened is what
+//! the plain book makes of the accepted calls, or of these and the one in flight. Compactions between such calls, each
+//! stopped after each of its changes, leave what the book makes of the calls before. Replays between 500 such calls give
+//! the frames of the book.
 
 use crate::calls::{TERM, event_of, opened};
 use crate::reference::{Story, polled, replayed, text_of_book};
@@ -238,7 +238,7 @@ fn has_all(rt: &impl Abort, text: &str) {
     }
 }
 
-/// The 200 random calls contain each command at least once, so that the other tests of this file ask of each.
+/// Among the 200 random calls each command is accepted at least once, so the other tests of this file ask of each.
 #[test]
 fn each_command_comes_by_chance(rt: HostRuntime) -> Result<(), Fail> {
     let answers = String::from_utf8(answers_by_chance(rt.alloc())?)?;

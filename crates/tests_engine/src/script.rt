@@ -1,5 +1,5 @@
-//! A script that makes each change of an archive: what it is answered, by how many changes of the disk, and what each stop and
-//! each failed call of the disk leaves of it. docs/STORAGE.md, "Recovery".
+//! A script that makes each change of an archive. What it is answered, by how many changes of the disk, and what each
+//! stop and each failed call of the disk leaves of it. docs/STORAGE.md, "Recovery".
 
 use crate::calls::{answered, event_in, made, plays};
 use crate::reference::Story;

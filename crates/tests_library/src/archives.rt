@@ -193,8 +193,8 @@ fn check_again(rt: &impl Abort, alloc: Global, book: &mut Book) -> Result<(), Fa
     Ok(())
 }
 
-/// A refused request for memory is told as NoMemory and changes nothing, and the call may be made again:
-/// trials/refused_memory.py runs this test for each of its requests for memory, which it refuses.
+/// A refused request for memory is answered NoMemory and changes nothing, and the call may be made again.
+/// trials/refused_memory.py refuses each of its requests in turn.
 #[test]
 fn refused_memory_changes_nothing(rt: HostRuntime) -> Result<(), Fail> {
     let mut book = Book::new(rt.alloc(), 2);
@@ -215,8 +215,8 @@ fn poll_late(rt: &impl Abort, alloc: Global, book: &Book) -> Result<(), Fail> {
     Ok(())
 }
 
-/// A poll copies the frames that it gives and no other: trials/refused_memory.py counts its requests for memory,
-/// a list and the bytes of each frame given.
+/// A poll copies the frames that it gives and no other. trials/refused_memory.py counts its requests for memory: a list,
+/// and the bytes of each frame given.
 #[test]
 fn counted_memory_of_a_late_poll(rt: HostRuntime) -> Result<(), Fail> {
     let book = three_hellos(rt.alloc())?;

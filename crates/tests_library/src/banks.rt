@@ -1,5 +1,5 @@
-//! The two banks of a catalogue: which of them is in use, how many reads an opening makes, and a bank that is written anew,
-//! stopped at each change of the disk.
+//! The two banks of a catalogue: which of them is in use, and how many reads an opening makes. A bank that is written
+//! anew, stopped at each change of the disk.
 
 use crate::catalogues::answer;
 use catalogue_log::{Bank, open, write_anew};
@@ -65,7 +65,7 @@ fn beside(
     made.and(Ok(answer(alloc, &mut disk)))
 }
 
-/// The bank with an open gate and the higher epoch is in use; a later one that is damaged, newer or no catalogue is
+/// The bank with an open gate and the higher epoch is in use. A later one that is damaged, newer or no catalogue is
 /// refused, and so are two of one epoch.
 #[test]
 fn the_open_bank_of_the_later_epoch_is_in_use(rt: HostRuntime) -> Result<(), Fail> {
@@ -121,8 +121,8 @@ fn opening(alloc: Global, count: usize) -> Result<(usize, Option<u64>), Fail> {
     Ok(opened(alloc, &mut disk)?)
 }
 
-/// An opening makes two syncs, a read of each bank's header, and one for each 64,256 bytes: of 65,536 that are read at once
-/// the last 1,280 may be too few for an entry.
+/// An opening makes two syncs, a read of each bank's header, and one for each 64,256 bytes. Of the 65,536 that are read
+/// at once the last 1,280 may be too few for an entry.
 #[test]
 fn an_opening_reads_each_part_once(rt: HostRuntime) -> Result<(), Fail> {
     for (count, calls) in [(0, 5), (16_000, 5), (32_000, 6), (64_000, 8)] {

@@ -101,8 +101,7 @@ fn is_made(alloc: Global, starts: &[i64], readers: usize) -> bool {
     Board::new(alloc, starts, readers).is_ok()
 }
 
-/// Where memory is refused once, a board may be made again: trials/refused_memory.py runs this test for each of its
-/// requests for memory, which it refuses.
+/// If memory is refused once, a board may be made again. trials/refused_memory.py refuses each of its requests in turn.
 #[test]
 fn refused_memory_makes_no_board(rt: HostRuntime) {
     let alloc = rt.alloc();

@@ -584,8 +584,8 @@ fn prepare_again(rt: &impl Abort, log: &mut Log) -> Result<(), Refusal> {
     Ok(())
 }
 
-/// Where memory is refused once, an entry is prepared again, and what is prepared is not refused for want of memory: a
-/// disk that finds none answers a fault.
+/// An entry that is refused memory can be prepared again, and a prepared one is not refused for want of memory. A disk
+/// that finds none answers a fault.
 #[test]
 fn refused_memory_comes_before_a_prepared_entry(rt: HostRuntime) -> Result<(), Fail> {
     let mut disk = MemoryDisk::new(rt.alloc());

@@ -414,7 +414,7 @@ fn checkpoint_again(
     Ok("once")
 }
 
-/// Where memory is refused once, the catalogue has its recordings, and a checkpoint of it is made then.
+/// If memory is refused once, the catalogue has its recordings, and a checkpoint of it is made then.
 #[test]
 fn refused_memory_leaves_what_is_checkpointed(rt: HostRuntime) -> Result<(), Fail> {
     let mut disk = written_again(rt.alloc())?;

@@ -128,7 +128,7 @@ fn check_again(rt: &impl Abort, alloc: Global, disk: &mut MemoryDisk) -> Result<
     Ok(())
 }
 
-/// Where memory is refused once, the catalogue is as it was, and is compacted then.
+/// If memory is refused once, the catalogue is as it was, and is compacted then.
 #[test]
 fn refused_memory_leaves_what_is_compacted(rt: HostRuntime) -> Result<(), Fail> {
     let mut disk = MemoryDisk::new(rt.alloc());

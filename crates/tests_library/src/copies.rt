@@ -330,6 +330,8 @@ fn run(
     Ok(laid)
 }
 
+/// A sender and an image over a line that loses, repeats and reorders in both directions make an exact copy of the
+/// stream.
 #[test]
 fn a_stream_is_copied_over_a_bad_line(rt: HostRuntime) -> Result<(), Fail> {
     let alloc = rt.alloc();

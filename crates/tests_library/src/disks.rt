@@ -263,8 +263,8 @@ fn run_second(rt: &impl Abort, disk: &mut MemoryDisk) -> Result<(), Fail> {
     make_again(rt, disk, Step::Remove(FileId::BankA), &B_SYNCED, &A_REMOVED)
 }
 
-/// Want of memory in a call is a fault, and nothing has changed then. A second try succeeds here:
-/// trials/refused_memory.py runs this test for each of its requests for memory, which it refuses.
+/// Want of memory in a call is a fault, and nothing has changed then. A second try succeeds here.
+/// trials/refused_memory.py refuses each of its requests in turn.
 #[test]
 fn refused_memory_changes_nothing(rt: HostRuntime) -> Result<(), Fail> {
     let mut disk = MemoryDisk::new(rt.alloc());

@@ -350,8 +350,8 @@ fn item_count(alloc: Global) -> Result<usize, AllocError> {
     Ok(items.len())
 }
 
-/// A refused request for memory is told as NoMemory, and the call may be made again: trials/refused_memory.py runs
-/// this test for each of its requests for memory, which it refuses.
+/// A refused request for memory is answered NoMemory, and the call may be made again. trials/refused_memory.py refuses
+/// each of its requests in turn.
 #[test]
 fn refused_memory_of_frames(rt: HostRuntime) -> Result<(), Fail> {
     let alloc = rt.alloc();

@@ -215,8 +215,8 @@ fn prepare_again(rt: &impl Abort, log: &mut Log, entries: &[Entry]) -> Result<()
     Ok(())
 }
 
-/// Where memory is refused once, entries are prepared again, and what is prepared is not refused for want of memory: a disk that
-/// finds none answers a fault.
+/// Entries that are refused memory can be prepared again, and prepared ones are not refused for want of memory. A disk
+/// that finds none answers a fault.
 #[test]
 fn refused_memory_comes_before_a_prepared_group(rt: HostRuntime) -> Result<(), Fail> {
     let entries = settles_again(rt.alloc(), 64)?;

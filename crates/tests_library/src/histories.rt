@@ -213,8 +213,8 @@ fn two_passes_again(alloc: Global) -> Result<Passes, HistoryRefusal> {
     }
 }
 
-/// Where memory is refused once, nothing has changed, and the call may be made again: trials/refused_memory.py runs
-/// this test for each of its requests for memory, which it refuses.
+/// If memory is refused once, nothing has changed, and the call may be made again. trials/refused_memory.py refuses each
+/// of its requests in turn.
 #[test]
 fn refused_memory_changes_nothing(rt: HostRuntime) -> Result<(), Fail> {
     let Passes {

@@ -1,5 +1,5 @@
-//! Hostile bytes: the worked bank, a frame's encoding and a segment file, changed and cut at each length, with what
-//! docs/STORAGE.md and docs/PROTOCOL.md say of each. A refused opening leaves all files as they are, but for two syncs.
+//! Hostile bytes: the worked bank, a frame's encoding and a segment file, changed and cut at each length. docs/STORAGE.md
+//! and docs/PROTOCOL.md say what each is answered. A refused opening leaves all files as they are, but for two syncs.
 
 use crate::catalogues::{BANK, answer, register_in};
 use crate::images::image;
@@ -75,7 +75,7 @@ const BANKS: [(u64, u64, u8, (&str, i64)); 9] = [
     (108, 1, 0, ("NotCatalogue", 0)),
 ];
 
-/// Opening a bank with any hostile byte answers as docs/STORAGE.md says, and changes no file.
+/// Opening each of nine hostile banks answers as docs/STORAGE.md says, and changes no file.
 #[test]
 fn an_opening_of_hostile_banks_syncs_alone(rt: HostRuntime) -> Result<(), Fail> {
     for (length, at, byte, told) in BANKS {
@@ -165,7 +165,7 @@ fn read(alloc: Global, image: &mut Image, bytes: &[u8]) -> Read {
 
 const BAD: Result<usize, Refusal> = Err(Refusal::BadFrame { offset: 0 });
 
-/// A frame of 37 bytes is none while one is missing.
+/// A frame of 37 bytes is refused while a byte is missing.
 #[test]
 fn a_frame_is_cut_at_each_length(rt: HostRuntime) -> Result<(), Fail> {
     let mut image = image(rt.alloc())?;

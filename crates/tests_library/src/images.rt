@@ -183,8 +183,8 @@ fn insert_three(rt: &impl Abort, alloc: Global, image: &mut Image) -> Result<(),
     Ok(insert_again(rt, image, &bytes)?)
 }
 
-/// Where memory is refused once, nothing has changed, and the call may be made again: trials/refused_memory.py runs
-/// this test for each of its requests for memory, which it refuses.
+/// If memory is refused once, nothing has changed, and the call may be made again. trials/refused_memory.py refuses each
+/// of its requests in turn.
 #[test]
 fn refused_memory_changes_nothing(rt: HostRuntime) -> Result<(), Fail> {
     let mut image = image(rt.alloc())?;

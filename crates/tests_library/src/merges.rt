@@ -41,8 +41,8 @@ fn offered_again(rt: &impl Abort, alloc: Global, merge: &mut Merge) -> Result<()
     Ok(())
 }
 
-/// Where memory is refused once, nothing has changed, and the frame may be offered again: trials/refused_memory.py
-/// runs this test for each of its requests for memory, which it refuses.
+/// If memory is refused once, nothing has changed, and the frame may be offered again. trials/refused_memory.py refuses
+/// each of its requests in turn.
 #[test]
 fn refused_memory_changes_nothing(rt: HostRuntime) -> Result<(), Fail> {
     let alloc = rt.alloc();

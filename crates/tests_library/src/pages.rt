@@ -152,8 +152,8 @@ fn compared(rt: &impl Abort, alloc: Global, paged: &mut Paged) -> Result<u64, Re
     Ok(calls)
 }
 
-/// Three pages are read by one call, or one by one where one is kept. Each of the two frames behind them is a call, again
-/// in each replay.
+/// Three pages are read by one call, or one by one if one of them is kept. Each of the two frames after them is a call,
+/// again in each replay.
 #[test]
 fn frames_through_pages_are_those_of_the_disk(rt: HostRuntime) -> Result<(), Fail> {
     for (capacity, first, second) in [(256, 3, 2), (1, 5, 5)] {
@@ -206,8 +206,8 @@ fn follows(
     Ok(frames.len() == 1 && frames[0].payload.as_slice().first() == Some(&number))
 }
 
-/// A replay that is polled after each frame is given each one, though another frame stood in its place before it was
-/// recorded: a page is kept only once it lies whole below what is recorded.
+/// A page is kept only once it lies whole below what is recorded. So a replay that is polled after each frame gives each
+/// one, though other bytes were there before.
 #[test]
 fn what_is_not_recorded_may_change(rt: HostRuntime) -> Result<(), Fail> {
     let mut paged = with_room(rt.alloc(), 256)?;
@@ -221,7 +221,7 @@ fn what_is_not_recorded_may_change(rt: HostRuntime) -> Result<(), Fail> {
     Ok(())
 }
 
-/// Where memory is refused once, a poll gives the frames, or it is NoMemory and may be made again from where it was.
+/// If memory is refused once, a poll gives the frames, or it is NoMemory and may be made again from where it was.
 #[test]
 fn refused_memory_of_a_poll_through_pages(rt: HostRuntime) -> Result<(), Fail> {
     let alloc = rt.alloc();

@@ -34,8 +34,7 @@ fn the_least_session_that_stands_there_is_fed(rt: HostRuntime) -> Result<(), Fai
     Ok(())
 }
 
-/// Where memory is refused once, pairs may be made again: trials/refused_memory.py runs this test for each of its
-/// requests for memory, which it refuses.
+/// If memory is refused once, pairs may be made again. trials/refused_memory.py refuses each of its requests in turn.
 #[test]
 fn refused_memory_makes_no_pairs(rt: HostRuntime) {
     let alloc = rt.alloc();

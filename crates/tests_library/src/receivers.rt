@@ -216,7 +216,7 @@ fn window(most: i32, term_length: i32, mtu: i32) -> Option<i32> {
     )
 }
 
-/// The receiver window is at most half a term, and there is none if it is below one MTU.
+/// The receiver window is at most half a term; below one MTU there is no window.
 #[test]
 fn windows(rt: HostRuntime) {
     for (most, term_length, mtu, bytes) in [
@@ -272,8 +272,7 @@ fn a_setup_frame_is_asked_for_by_these_bytes(rt: HostRuntime) {
     assert!(rt; setup_request(&publication(7), 9).encode() == SETUP_REQUEST);
 }
 
-/// Where memory is refused once, requests may be made again: trials/refused_memory.py runs this test for each of its
-/// requests for memory, which it refuses.
+/// If memory is refused once, requests may be made again. trials/refused_memory.py refuses each of its requests in turn.
 #[test]
 fn refused_memory_makes_no_requests(rt: HostRuntime) {
     let alloc = rt.alloc();

@@ -77,7 +77,7 @@ fn polls_up_to_the_recorded_position(rt: HostRuntime) -> Result<(), Fail> {
     Ok(())
 }
 
-/// Where memory is refused once, the replay stays where it is, and the poll may be made again.
+/// If memory is refused once, the replay stays where it is, and the poll may be made again.
 #[test]
 fn refused_memory_leaves_a_replay(rt: HostRuntime) -> Result<(), Fail> {
     let mut disk = stored(&rt, rt.alloc())?;

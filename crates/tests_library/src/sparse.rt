@@ -147,8 +147,8 @@ fn is_long_pad(frame: &Frame) -> bool {
     frame.kind == FrameKind::Pad && frame.length == TERM_LENGTH && frame.payload.is_empty()
 }
 
-/// A pad is read by its header: no byte of what it fills is asked for at once with more than the MTU, also where all of it
-/// stands in the file; and it takes no memory, which trials/refused_memory.py asks.
+/// A pad is read by its header. No byte of what it fills is asked for at once with more than the MTU, even if all of it
+/// is in the file. It takes no memory, which trials/refused_memory.py asks.
 #[test]
 fn counted_memory_of_a_long_pad(rt: HostRuntime) -> Result<(), Fail> {
     for length in [32, 65_536, 1_073_741_824] {

@@ -7,7 +7,11 @@ mod agents;
 #[cfg(test)]
 mod archives;
 #[cfg(test)]
+mod checkpoints;
+#[cfg(test)]
 mod client;
+#[cfg(test)]
+mod consumers;
 #[cfg(test)]
 mod conversations;
 #[cfg(test)]
@@ -16,6 +20,8 @@ mod crowds;
 mod ends;
 #[cfg(test)]
 mod failing;
+#[cfg(test)]
+mod followers;
 #[cfg(test)]
 mod held_back;
 #[cfg(test)]

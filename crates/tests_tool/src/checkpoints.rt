@@ -1,4 +1,4 @@
-//! Scripts that make checkpoints: docs/SCENARIOS.md; docs/STORAGE.md, "Checkpoints".
+//! Scripts that make checkpoints: docs/STORAGE.md, "Checkpoints".
 
 use super::compactions::check_file;
 use super::disks::with_short_history;
@@ -55,6 +55,7 @@ const DUE: [(u64, u64, u32, bool); 12] = [
     (8_388_639, 64, 16_777_216, false),
 ];
 
+/// A checkpoint is due once at least half of what may count beyond the active recordings counts.
 #[test]
 fn when_a_checkpoint_is_due(rt: HostRuntime) -> Result<(), Fail> {
     for (counted, active, limit, is_due) in DUE {
@@ -81,7 +82,7 @@ fn no_line_without_checkpoints(rt: HostRuntime) -> Result<(), Fail> {
     expect(out.as_slice(), told.as_str())
 }
 
-/// The lines that fill a history of three entries fill none with checkpoints: docs/SCENARIOS.md, "Full history and compaction".
+/// The lines that fill a history of three entries fill none with checkpoints: docs/STORAGE.md, "Checkpoints".
 #[test]
 fn a_short_history_never_ends(rt: HostRuntime) -> Result<(), Fail> {
     check_checkpointed(

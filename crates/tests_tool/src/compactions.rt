@@ -74,7 +74,7 @@ fn full_history_and_compaction(rt: HostRuntime) -> Result<(), Fail> {
     Ok(())
 }
 
-/// The second bank behind such a compaction, and the first one behind a further one.
+/// The bytes of the second bank after such a compaction, and of the first one after a further one.
 #[test]
 fn banks_behind_a_compaction(rt: HostRuntime) -> Result<(), Fail> {
     let disk = check_bank(
@@ -170,8 +170,7 @@ pub fn check_stopped(
 /// The disk as it is, and three crashes.
 pub const CHOICES: [Option<u8>; 4] = [None, Some(0), Some(1), Some(255)];
 
-/// After each number of changes at which the disk may stop, and after each such crash, the archive opens and says the same,
-/// and is compacted.
+/// Wherever the disk stops, and after each crash then, the archive opens, says the same, and is compacted.
 #[test]
 fn a_compaction_that_stops(rt: HostRuntime) -> Result<(), Fail> {
     for changes in 0..20 {
@@ -261,7 +260,7 @@ fn told_of_history(alloc: Global, counting: &mut Counting) -> Result<(), Fail> {
     }
 }
 
-/// How full the history is, is told at the opening and behind each line.
+/// How full the history is, is reported at the opening and after each line.
 #[test]
 fn a_history_that_fills_up(rt: HostRuntime) -> Result<(), Fail> {
     let mut counting = Counting {

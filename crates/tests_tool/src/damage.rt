@@ -96,7 +96,8 @@ fn a_whole_term_past_damage(rt: HostRuntime) -> Result<(), Fail> {
     Ok(())
 }
 
-/// A recording that begins in the middle of a term: its start is a boundary, and what follows in that term is past the damage.
+/// Of a recording that begins in the middle of a term the start is a boundary, and what follows in that term is past the
+/// damage.
 #[test]
 fn a_first_term_that_is_damaged(rt: HostRuntime) -> Result<(), Fail> {
     for how in [Damage::Cut(65_500), Damage::Cleared(65_472)] {

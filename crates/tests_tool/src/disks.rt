@@ -143,7 +143,7 @@ fn a_fault_and_a_reopening(rt: HostRuntime) -> Result<(), Fail> {
     Ok(())
 }
 
-/// The disk stops while a block is settled, and goes on behind the script: opening is refused meanwhile.
+/// The disk stops while a block is settled, and goes on after the script: opening is refused meanwhile.
 #[test]
 fn a_stop_and_another_script(rt: HostRuntime) -> Result<(), Fail> {
     let mut disk = MemoryDisk::new(rt.alloc());
@@ -164,8 +164,7 @@ fn a_stop_and_another_script(rt: HostRuntime) -> Result<(), Fail> {
     Ok(())
 }
 
-/// A disk that stops before it lists its files, while an archive is opened: the script is answered, and its archive is
-/// opened by another script.
+/// If a disk stops before it lists its files at an opening, the script is answered, and another script opens the archive.
 #[test]
 fn a_stop_at_the_first_opening(rt: HostRuntime) -> Result<(), Fail> {
     let mut disk = recorded(rt.alloc(), MemoryDisk::new(rt.alloc()))?;
@@ -230,7 +229,7 @@ fn crashed(alloc: Global, changes: u64, told: &str, choice: u8) -> Result<Memory
     Ok(disk.crash(&[choice])?)
 }
 
-/// A crash while a block is settled leaves it recorded or not, and once that is told, recorded.
+/// A crash while a block is settled leaves it recorded or not, and once the settle is answered, recorded.
 #[test]
 fn a_crash_and_another_script(rt: HostRuntime) -> Result<(), Fail> {
     for (changes, told, choice, recorded) in CRASHES {

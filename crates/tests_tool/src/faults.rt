@@ -90,8 +90,8 @@ fn end_of_holder(alloc: Global, bytes: &[u8]) -> Option<EarlyEnd> {
     end_of(alloc, failing(bytes, 100), &mut writer)
 }
 
-/// A reply is handed on before the next read, also where half of the next line is at hand, and at the end; what could not
-/// be handed on is Write, and not the fault of the reader that would have come next.
+/// A reply is written before the next read, even if half of the next line is there, and at the end. A failed write is
+/// Write, whatever fault of the reader would have come next.
 #[test]
 fn a_reply_is_handed_on_before_the_next_read(rt: HostRuntime) {
     for bytes in [b"list 0 0\n".as_slice(), b"list 0 0\nlist", b"quit\n"] {

@@ -245,8 +245,8 @@ const LISTINGS: [(&'static str, &'static str); 18] = [
     ),
 ];
 
-/// Files of whole, cut, changed and padded frames are listed frame by frame up to the first fault, whatever the reads'
-/// sizes.
+/// Files of whole, cut, changed and padded frames are listed frame by frame, up to zeros, the end or the first bad frame,
+/// whatever the size of a read.
 #[test]
 fn listings(rt: HostRuntime) -> Result<(), Fail> {
     for (parts, told) in LISTINGS {

@@ -131,7 +131,7 @@ fn the_files_before_count(rt: HostRuntime) -> Result<(), Fail> {
     Ok(())
 }
 
-/// An opening is begun at 0 milliseconds, and the clock is read at each file that it syncs: the line is written at 600, 900
+/// An opening begins at 0 milliseconds, and the clock is read at each file that it syncs. The line is written at 600, 900
 /// and 1,200, and no more once the archive is open.
 #[test]
 fn an_opening_is_shown_once_it_lasts(rt: HostRuntime) {
@@ -187,7 +187,7 @@ fn bytes_verified(alloc: Global) -> Result<Option<u64>, Fail> {
     Ok(bytes_told(engine))
 }
 
-/// A watched disk gives what it gives unwatched, and its viewer is told of each frame's bytes.
+/// A watched disk gives what it gives unwatched, and its viewer gets each frame's bytes.
 #[test]
 fn a_watched_disk(rt: HostRuntime) -> Result<(), Fail> {
     let bytes = bytes_verified(rt.alloc())?;

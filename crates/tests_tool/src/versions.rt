@@ -158,8 +158,8 @@ fn no_source_is_told(rt: HostRuntime) -> Result<(), Fail> {
     Ok(())
 }
 
-/// After each number of changes at which the disk may stop, and after a crash there, the archive opens in the version that it
-/// has come to, says the same, and is compacted.
+/// Wherever the disk stops, and after a crash there, the archive opens in the version that it has come to, says the same,
+/// and is compacted.
 #[test]
 fn a_migration_that_stops(rt: HostRuntime) -> Result<(), Fail> {
     for changes in 0..20 {

@@ -44,7 +44,7 @@ module _ {A B : Type 0} (view : A → B) (ways : Ways B) where
   read_line_is old (Ok line) outcome new is = line_is old line outcome new is
   read_line_is old (Err refusal) outcome new is = (is.0, ap state_seen is.1)
 
-  is_answer : (takes : Bool) (old : ScriptState A) (line : Result Line Refusal) (outcome : Result Reply Refusal) (new : ScriptState A) → IsAnswer Seen takes old line outcome new → IsAnswer ways takes (state_seen old) line outcome (state_seen new)
+  pub is_answer : (takes : Bool) (old : ScriptState A) (line : Result Line Refusal) (outcome : Result Reply Refusal) (new : ScriptState A) → IsAnswer Seen takes old line outcome new → IsAnswer ways takes (state_seen old) line outcome (state_seen new)
   is_answer takes old line outcome new (inl is) = inl (read_line_is old line outcome new is)
   is_answer takes old line outcome new (inr (takes_it, want, same)) = inr (takes_it, want, ap state_seen same)
 
@@ -55,8 +55,8 @@ module _ {A B : Type 0} (view : A → B) (ways : Ways B) where
     SeenCheckpoints = checkpointing_seen view checkpoints
 
     pub replies_seen : (old : ScriptState A) (line : Option (List ℕ)) (text : List ℕ) (new : ScriptState A) → Replies Seen SeenCheckpoints old line text new → Replies ways checkpoints (state_seen old) line text (state_seen new)
-    replies_seen old line text new (mid, prepared, outcome, answer, is) =
-        (state_seen mid, prepared, outcome, is_answer (asked_copies line) mid (asked (checkpoints.offers (view mid.archive)) line) outcome new answer, is)
+    replies_seen old line text new (mid, prepared, (outcome, answer, is)) =
+        (state_seen mid, prepared, (outcome, is_answer (asked_copies line) mid (asked (checkpoints.offers (view mid.archive)) line) outcome new answer, is))
 
     back : (s : ScriptState A) (line : Option (List ℕ)) (reply : List ℕ) (t : ScriptState A) → Replies Seen SeenCheckpoints s line reply t → Unit {0} → Unit {0}
     back s line reply t replies good = tt
