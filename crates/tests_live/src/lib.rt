@@ -7,6 +7,8 @@ mod agents;
 #[cfg(test)]
 mod archives;
 #[cfg(test)]
+mod benches;
+#[cfg(test)]
 mod checkpoints;
 #[cfg(test)]
 mod client;
