@@ -25,6 +25,8 @@ mod failing;
 #[cfg(test)]
 mod followers;
 #[cfg(test)]
+mod groups;
+#[cfg(test)]
 mod held_back;
 #[cfg(test)]
 mod kept;
