@@ -78,8 +78,8 @@ abbrev pub found_by : Option ℤ → Resumes → StreamPoint → List Descriptor
 found_by (Some recording) resumes p ds = Extends recording
 found_by None resumes p ds = if may_resume resumes then found_before (last_resumable p ds) else Begins
 
-abbrev pub finding : Resumes → StreamPoint → List Descriptor → Finding
-finding resumes p ds = found_by (last_continued p ds) resumes p ds
+abbrev pub finding_for : Resumes → StreamPoint → List Descriptor → Finding
+finding_for resumes p ds = found_by (last_continued p ds) resumes p ds
 
 -- the last recording of its publication, if that was stopped: a recording that begins elsewhere leaves a hole after it, or goes back before its end
 abbrev pub stopped_stand : Option Stand → Option Stand

@@ -2,7 +2,7 @@
 //! asked".
 
 ghost use Rattle.std.specs.Prelude.{◌≡◌};
-ghost use Rattle.server_recorder.specs.Streams.{continued, continues, extend_fields, finding, found_before, is_passed_over, last_continued, last_resumable, last_stand, or_else, resumed_stand, segment_of, stand_before, stand_or_else, start_fields, stop_point, stopped_stand, tells_stand, told_stand};
+ghost use Rattle.server_recorder.specs.Streams.{continued, continues, extend_fields, finding_for, found_before, is_passed_over, last_continued, last_resumable, last_stand, or_else, resumed_stand, segment_of, stand_before, stand_or_else, start_fields, stop_point, stopped_stand, tells_stand, told_stand};
 
 use archive_model::{Channel, Descriptor, ExtendFields, SourceIdentity, StartFields};
 use frame_core::{Geometry, Publication};
@@ -82,8 +82,12 @@ pub(crate) enum Finding {
 
 /// What is found for an image that joined at a point, among recordings by rising id. Costs a step for each recording. Does not
 /// allocate.
-pub(crate) fn finding(recordings: &[Descriptor], point: &StreamPoint, resumes: Resumes) -> Finding
-    ensures { result ≡ finding resumes point.now recordings.now }
+pub(crate) fn finding_for(
+    recordings: &[Descriptor],
+    point: &StreamPoint,
+    resumes: Resumes,
+) -> Finding
+    ensures { result ≡ finding_for resumes point.now recordings.now }
 {
     if let Some(recording) = last_continued(recordings, point) {
         return Finding::Extends(recording);
