@@ -1,6 +1,6 @@
 -- What the writers of a bench raised stays settled among the calls of its pass.
 use Rattle.std.proofs.Common.{◌≡◌, ◌++◌, ◌∙◌, inl, inr, ℕ, zero, suc, ℤ, List, [], ◌∷◌, Option, Some, None, Result, Ok, Err, Bool, true, false, sym, refl, ap, subst, arith, map, length}
-use Rattle.std.specs.Prelude.{◌⊎◌, Contains, IfSome, if◌then◌else◌, int_le, slice_get, slice_set}
+use Rattle.std.specs.Prelude.{◌⊎◌, Contains, IfErr, IfOk, IfSome, if◌then◌else◌, int_le, slice_get, slice_set}
 use Rattle.std.specs.List.{zip}
 use Rattle.std.proofs.lemmas.List.{append-nil, length-map}
 use Rattle.std.proofs.lemmas.List.Elements.{Contains-append_left, Contains-append_right}
@@ -163,3 +163,19 @@ together_raised life opening p q indices seats positions answer outcome told is 
       settles = inr (sessions, positions, ends.asked, ends.answered ∙ sym same, a);
     }))
     (all_over life opening p q seats (SettleAll sessions) outcome answers unnoted all)
+
+-- over several calls, whatever they were answered
+pub all_over_result : {D V : Type 0} (life : D → Life) (opening : EngineState) (p q : PassView Made) (seats : List BenchSeat) (events : List Event) (items : V → List (Result Reply Refusal)) (result : Result V Refusal)
+    → IfOk result (λ outcomes. EndsWithAnswers life opening p events (items outcomes) q) → IfErr result (λ refusal. (refusal ≡ NoMemory) × (q ≡ p)) → AllAreAmong p seats → AllAreAmong q seats
+all_over_result life opening p q seats events items (Ok outcomes) answers refused all = all_over_calls life opening p q seats events (items outcomes) answers all
+all_over_result life opening p q seats events items (Err refusal) answers refused all = subst (λ (x : PassView Made). AllAreAmong x seats) (sym refused.1) all
+
+-- beside an empty list there are no pairs
+pub no_pairs : {A B : Type 0} (xs : List A) (ys : List B) → (xs ≡ []) ⊎ (ys ≡ []) → zip xs ys ≡ []
+no_pairs [] ys is = refl
+no_pairs (x ∷ xs) [] is = refl
+no_pairs (x ∷ xs) (y ∷ ys) is = by is
+  where
+    by : (x ∷ xs ≡ []) ⊎ (y ∷ ys ≡ []) → zip (x ∷ xs) (y ∷ ys) ≡ []
+    by (inl gone) = absurd cc
+    by (inr gone) = absurd cc

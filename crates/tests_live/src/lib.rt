@@ -11,6 +11,8 @@ mod checkpoints;
 #[cfg(test)]
 mod client;
 #[cfg(test)]
+mod consumers;
+#[cfg(test)]
 mod conversations;
 #[cfg(test)]
 mod crowds;
