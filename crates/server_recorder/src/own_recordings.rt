@@ -16,7 +16,7 @@ use frame_core::limits::MAX_LIST;
 use frame_core::{Items, Refusal};
 use server_state::{
     Found, Happening, HoleCause, ImageNews, Reporter, ResumeNews, Resumes, Stand, Taken,
-    WaitingImage, reach,
+    WaitingImage, resume_reach,
 };
 use std::alloc::{AllocError, Global};
 use std::net::SocketAddr;
@@ -346,7 +346,7 @@ fn report_before<D: Disk, A: Naming, R: Wait, T: Reporter>(
 /// Why a publication does not go on where its last recording ends.
 fn hole_cause(image: &WaitingImage) -> HoleCause {
     match image.resumes {
-        Resumes::Yes => HoleCause::TooFar(reach(&image.point.geometry)),
+        Resumes::Yes => HoleCause::TooFar(resume_reach(&image.point.geometry)),
         Resumes::NoRepeat => HoleCause::NoRepeat,
         Resumes::WasLost => HoleCause::WasLost,
     }

@@ -6,7 +6,7 @@ ghost use Rattle.server_recorder.specs.Streams.{continued, continues, extend_fie
 
 use archive_model::{Channel, Descriptor, ExtendFields, SourceIdentity, StartFields};
 use frame_core::{Geometry, Publication};
-use server_state::{Resumes, Stand, is_same_stream, is_within_reach};
+use server_state::{Resumes, Stand, is_one_stream, is_within_reach};
 use stream_pairs::StreamPoint;
 
 /// The recording that a publication goes on with which joined at a point, of recordings by rising id: the last that has its
@@ -153,7 +153,7 @@ fn told_stand(recording: &Descriptor, point: &StreamPoint) -> Option<Stand>
 fn tells_stand(recording: &Descriptor, point: &StreamPoint) -> bool
     ensures { result ≡ tells_stand point.now recording.now }
 {
-    is_same_stream(point, &stop_point(recording)) && !is_passed_over(recording, point)
+    is_one_stream(point, &stop_point(recording)) && !is_passed_over(recording, point)
 }
 
 /// Whether nothing was recorded, and a publication can't go on there.
