@@ -11,7 +11,11 @@ put_first old text next rest end is then = then ∙ (ap (λ (left : List ℕ). l
 put_last : (old text end : List ℕ) → end ≡ old ++ text → end ≡ old ++ (text ++ [])
 put_last old text end is = is ∙ ap (λ (last : List ℕ). old ++ last) (sym (append-nil text))
 
--- three texts, and four
+-- two texts, three, and four
+pub put_two : {T E : Type 0} (r : Result T E) (old a first b second : List ℕ) → first ≡ old ++ a → OnOk r (second ≡ first ++ b)
+    → OnOk r (second ≡ old ++ (a ++ (b ++ [])))
+put_two r old a first b second one = on_ok_weaker r (λ two. put_first old a first (b ++ []) second one (put_last first b second two))
+
 pub put_three : {T E : Type 0} (r : Result T E) (old a first b second c third : List ℕ) → first ≡ old ++ a → second ≡ first ++ b → OnOk r (third ≡ second ++ c)
     → OnOk r (third ≡ old ++ (a ++ (b ++ (c ++ []))))
 put_three r old a first b second c third one two = on_ok_weaker r (λ three. put_first old a first (b ++ (c ++ [])) third one
