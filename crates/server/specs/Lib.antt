@@ -1,6 +1,8 @@
 -- What a reader has to believe: what happens to a disk, and how lines are answered.
 pub mod Serving
 pub mod Answering
+-- What a follower is sent.
+pub mod Following
 -- Clients at a time with their passes, and where the lines are that the server answers by itself.
 pub mod Clients
 pub mod Consumers
