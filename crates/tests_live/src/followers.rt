@@ -253,7 +253,6 @@ fn is_closed<R: Net<Listener = TcpListener, Stream = TcpStream>>(
         && comes(&mut stream, &sign(0xC0, 128))
         && client.asks(alloc, "poll 0 1", "error 9 UnknownReplay")
         && client.asks(alloc, "poll-to 0 1 64", "error 9 UnknownReplay")
-        && client.asks(alloc, "purge 0", "error 4 ActiveReplay")
         && client.asks(alloc, "close 0", "closed")
         && hears_nothing_else(&mut stream, alloc)
         && client.asks(alloc, "close 0", "error 9 UnknownReplay")
