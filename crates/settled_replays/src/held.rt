@@ -2,7 +2,7 @@
 
 ghost use Rattle.std.specs.Prelude.{◌≡◌, Err, IfErr, IfOk, OnErr, OnOk, true};
 ghost use Rattle.control_core.specs.declared.event.Event.TheVariants.{ReplayOpen};
-ghost use Rattle.settled_replays.specs.Holding.{Asks, Closes, Looks, MovesOn, Opens, SeesNothing, StaysHeld};
+ghost use Rattle.settled_replays.specs.Holding.{PassAsks, PassCloses, LooksAtPositions, MovesHeldOn, PassOpens, SeesNothing, StaysHeld};
 ghost use Rattle.settled_replays.specs.Reading.{KeepsUp, LooksIfRead};
 
 use crate::calls::{close, opened, positions_of};
@@ -27,9 +27,9 @@ pub struct HeldReplay {
 }
 
 impl Model for HeldReplay {
-    ghost use Rattle.settled_replays.specs.Holding.{HeldView};
+    ghost use Rattle.settled_replays.specs.Holding.{HeldReplayView};
 
-    ghost Value = { HeldView };
+    ghost Value = { HeldReplayView };
 
     ghost view = { λ h. record {
       pass = h.pass;
@@ -51,7 +51,7 @@ pub struct Unopened {
 }
 
 impl HeldReplay {
-    /// Opens a replay of a recording at a position, for a length, both in bytes of the stream: one call. Nothing is seen yet
+    /// PassOpens a replay of a recording at a position, for a length, both in bytes of the stream: one call. Nothing is seen yet
     /// past the position.
     ///
     /// Refused as that call is, with the pass. Costs what it costs, and waits for those that hold the lock.
@@ -65,7 +65,7 @@ impl HeldReplay {
         length: i64,
     ) -> Result<HeldReplay, Unopened>
         requires { pass.table ≡ A.table }
-        ensures opens { IfOk result (λ held. Opens D.life A.opening pass recording position length held.number held.pass) }
+        ensures opens { IfOk result (λ held. PassOpens D.life A.opening pass recording position length held.number held.pass) }
         ensures held { IfOk result (λ held. held ≡ record {
           pass = held.pass;
           recording = recording;
@@ -74,7 +74,7 @@ impl HeldReplay {
           seen = position;
           is_active = true;
         }) }
-        ensures refused { IfErr result (λ un. Asks D.life A.opening pass (ReplayOpen recording position length) (Err un.refusal) un.pass) }
+        ensures refused { IfErr result (λ un. PassAsks D.life A.opening pass (ReplayOpen recording position length) (Err un.refusal) un.pass) }
         ensures pass { IfOk result (λ held. (held.pass.table ≡ pass.table) × (held.pass.number ≡ pass.number)) }
         ensures back { IfErr result (λ un. (un.pass.table ≡ pass.table) × (un.pass.number ≡ pass.number)) }
     {
@@ -126,7 +126,7 @@ impl HeldReplay {
         self.is_active
     }
 
-    /// Looks how far the recording is recorded, and whether it is active: one call, which reads nothing.
+    /// LooksAtPositions how far the recording is recorded, and whether it is active: one call, which reads nothing.
     ///
     /// Refused as that call is. Then nothing more was seen. Waits for those that hold the lock.
     pub fn look<D: Disk, A: Naming, R: Wait>(
@@ -136,7 +136,7 @@ impl HeldReplay {
         archive: &SharedArchive<D, A>,
     ) -> Result<(), Refusal>
         requires { self.old.pass.table ≡ A.table }
-        ensures looks { OnOk result (Looks D.life A.opening self.old self.new) }
+        ensures looks { OnOk result (LooksAtPositions D.life A.opening self.old self.new) }
         ensures refused { IfErr result (SeesNothing D.life A.opening self.old self.new) }
         ensures pass { (self.new.pass.table ≡ self.old.pass.table) × (self.new.pass.number ≡ self.old.pass.number) }
     {
@@ -146,7 +146,7 @@ impl HeldReplay {
         Ok(())
     }
 
-    /// Looks, if all that was seen is read up to where the next frame begins, in bytes of the stream.
+    /// LooksAtPositions, if all that was seen is read up to where the next frame begins, in bytes of the stream.
     ///
     /// Refused as the look is.
     pub(crate) fn look_if_read<D: Disk, A: Naming, R: Wait>(
@@ -190,7 +190,7 @@ impl HeldReplay {
         }
     }
 
-    /// Opens a replay of the recording further on, and then closes the one before: two calls. A position that is a multiple of
+    /// PassOpens a replay of the recording further on, and then closes the one before: two calls. A position that is a multiple of
     /// the term length needs no read.
     ///
     /// Refused as the opening is. Then the replay before it is open still. Waits for those that hold the lock.
@@ -203,7 +203,7 @@ impl HeldReplay {
         length: i64,
     ) -> Result<(), Refusal>
         requires { self.old.pass.table ≡ A.table }
-        ensures moves { OnOk result (MovesOn D.life A.opening self.old self.new position length) }
+        ensures moves { OnOk result (MovesHeldOn D.life A.opening self.old self.new position length) }
         ensures stays { IfErr result (StaysHeld D.life A.opening self.old self.new position length) }
         ensures pass { (self.new.pass.table ≡ self.old.pass.table) × (self.new.pass.number ≡ self.old.pass.number) }
     {
@@ -222,7 +222,7 @@ impl HeldReplay {
         Ok(())
     }
 
-    /// Closes the replay, by one call, however that is answered: the pass.
+    /// PassCloses the replay, by one call, however that is answered: the pass.
     pub fn close<D: Disk, A: Naming, R: Wait>(
         self,
         rt: &R,
@@ -230,7 +230,7 @@ impl HeldReplay {
         archive: &SharedArchive<D, A>,
     ) -> Pass<Made>
         requires { self.pass.table ≡ A.table }
-        ensures closes { Closes D.life A.opening self.pass self.number result }
+        ensures closes { PassCloses D.life A.opening self.pass self.number result }
         ensures pass { (result.table ≡ self.pass.table) × (result.number ≡ self.pass.number) }
     {
         let HeldReplay {
