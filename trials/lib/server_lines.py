@@ -16,6 +16,7 @@ CALM = re.compile(
     r"|all 64 places of images are taken: .*"
     r"|a connection ended and left replays open:(?: \d+)+"
     r"|\d+ of the \d+ entries of the history are used, \d+ are left"
+    r"|the history was made short: \d+ entries became \d+"
     rf"|ended: connections \d+, datagrams \d+, images \d+, {COUNTS}"
 )
 

@@ -4,36 +4,72 @@
 use crate::log::{Level, Log};
 use crate::why::SystemText;
 use disk_core::FileId;
-use server::Flusher;
+use host_disk::ReadFolder;
+use server::{Flusher, Openings};
+use std::alloc::Global;
 use std::fmt;
 use std::fs::{self, File};
 use std::io::{self, Eprint, ErrorKind};
+use std::marker::{Brand, PhantomData};
 use std::path::Path;
 use std::rt::Clock;
 
 /// Files that are flushed at a time.
 const FLUSHED: usize = 8;
 
-/// Flushes files of a folder, each by a second opening, and reports on standard error that a flush has failed.
+/// Names what nobody can tell when a folder is opened again.
+pub(crate) trait Found {
+    ghost use Rattle.host_disk.specs.Events.{Given};
+
+    /// What the folder holds then.
+    ghost given: { Given };
+}
+
+impl Found for Brand {
+    ghost use Rattle.std.specs.Prelude.{[]};
+
+    ghost given = { record { held = []; left = [] } };
+}
+
+/// Flushes files of a folder, each by a second opening, and reports on standard error that a flush has failed. It opens the folder
+/// again for each who reads beside the archive.
 #[derive(Drop)]
-pub(crate) struct FolderFlusher<'a, R> {
+pub(crate) struct FolderFlusher<'a, R, G: Found> {
     log: Log<'a, R>,
     rt: HostRuntime,
     folder: &'a str,
+    found: PhantomData<G>,
 }
 
-impl<'a, R> FolderFlusher<'a, R> {
+impl<'a, R, G: Found> FolderFlusher<'a, R, G> {
     /// Flushes files of the folder of a path.
-    pub(crate) fn new(log: Log<'a, R>, rt: HostRuntime, folder: Path<'a>) -> FolderFlusher<'a, R> {
+    pub(crate) fn new(
+        log: Log<'a, R>,
+        rt: HostRuntime,
+        folder: Path<'a>,
+    ) -> FolderFlusher<'a, R, G> {
         FolderFlusher {
             log,
             rt,
             folder: folder.as_str(),
+            found: PhantomData,
         }
     }
 }
 
-impl<R: Eprint + Clock> Flusher for FolderFlusher<'_, R> {
+impl<R, G: Found> Openings for FolderFlusher<'_, R, G> {
+    type Opening = ReadFolder;
+
+    fn can_open(&self) -> bool {
+        true
+    }
+
+    fn open_again(&self, alloc: Global) -> Option<ReadFolder> {
+        ReadFolder::open(self.rt, alloc, Path::new(self.folder)).ok()
+    }
+}
+
+impl<R: Eprint + Clock, G: Found> Flusher for FolderFlusher<'_, R, G> {
     fn width(&self) -> usize {
         FLUSHED
     }

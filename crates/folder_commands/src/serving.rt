@@ -32,9 +32,10 @@ use flow_control::{INITIAL_WINDOW, LONGEST_WINDOW, SHORTEST_WINDOW};
 use frame_core::Refusal;
 use frame_core::limits::{FRAME_ALIGNMENT, MAX_TERM_LENGTH, MIN_TERM_LENGTH};
 use host_disk::HostDisk;
-use server::{Flusher, Reporter, SEGMENT_LENGTH, ServeOptions, Served, serve_flushing};
+use server::{Flusher, Openings, Reporter, SEGMENT_LENGTH, ServeOptions, Served, serve_flushing};
 use std::alloc::Global;
 use std::io::{self, Eprint};
+use std::marker::Brand;
 use std::net::{Ipv4Addr, Net, TcpListener, TcpStream, UdpSocket};
 use std::path::Path;
 use std::random::RandomSource;
@@ -99,7 +100,7 @@ pub(crate) fn serve<
     let disk = Watched::new(disk, ServeFaults::new(rt.alloc(), log_of(net, words)));
     let metrics = metrics_of(rt, words);
     let reporter = ServeReporter::new(log_of(net, words), words.is_quiet, metrics);
-    let flusher = FolderFlusher::new(log_of(net, words), rt, folder);
+    let flusher = FolderFlusher::<R, Brand>::new(log_of(net, words), rt, folder);
     let (disk, done) = serve_disk(net, rt.alloc(), ports, disk, &options, reporter, &flusher);
     Outcome::leaving(done, closed(disk))
 }
@@ -416,7 +417,7 @@ fn serve_disk<
     R: Threads + Wait + Clock + Sync,
     D: Disk + Drop + Send,
     T: Reporter + Drop + Send + Sync,
-    F: Flusher + Sync,
+    F: Flusher + Openings + Sync,
 >(
     net: &R,
     alloc: Global,

@@ -49,15 +49,15 @@ within_gone most [] d within gone = elim gone [ ]
 within_gone most (x ∷ out) d within (inl is) = rw is within.0
 within_gone most (x ∷ out) d within (inr gone) = within_gone most out d within.1 gone
 
-made_gone : (stream : List (ℕ × Frame)) (out : List Datagram) (d : Datagram) → AreMadeOf stream out → HasGone out d → IsMadeOf stream d
+pub made_gone : (stream : List (ℕ × Frame)) (out : List Datagram) (d : Datagram) → AreMadeOf stream out → HasGone out d → IsMadeOf stream d
 made_gone stream [] d made gone = elim gone [ ]
 made_gone stream (x ∷ out) d made (inl is) = rw is made.0
 made_gone stream (x ∷ out) d made (inr gone) = made_gone stream out d made.1 gone
 
 -- what went out, and how far it may reach
-record HaveGone (stream : List (ℕ × Frame)) (most : ℕ) (out : List Datagram) : Type 0 where
-  made : AreMadeOf stream out
-  within : AreWithin most out
+pub record HaveGone (stream : List (ℕ × Frame)) (most : ℕ) (out : List Datagram) : Type 0 where
+  pub made : AreMadeOf stream out
+  pub within : AreWithin most out
 
 gone_both : (stream : List (ℕ × Frame)) (most : ℕ) (out more : List Datagram) → HaveGone stream most out → HaveGone stream most more → HaveGone stream most (out ++ more)
 gone_both stream most [] more here there = there
@@ -101,15 +101,15 @@ call_goes stream End s so made = nothing_gone stream _
 -- ---- the sender
 
 -- a call leaves the terms, and what is consumed does not fall and is true
-record IsCalled (limit : ℕ) (old new : Sending) : Type 0 where
-  geometry : new.geometry ≡ old.geometry
-  up : old.flow.consumed ≤ new.flow.consumed
-  true_of : new.flow.consumed ≤ max old.flow.consumed limit
+pub record IsCalled (limit : ℕ) (old new : Sending) : Type 0 where
+  pub geometry : new.geometry ≡ old.geometry
+  pub up : old.flow.consumed ≤ new.flow.consumed
+  pub true_of : new.flow.consumed ≤ max old.flow.consumed limit
 
 kept : (limit : ℕ) (old new : Sending) → new.geometry ≡ old.geometry → new.flow.consumed ≡ old.flow.consumed → IsCalled limit old new
 kept limit old new geometry consumed = record { geometry = geometry; up = omega (arith, consumed); true_of = omega (arith, consumed) }
 
-called : (r : Received) (c : Call) (s : Sending) → IsTrueOf s.geometry r c → IsCalled (rebuilt r) s (sending_after c s)
+pub called : (r : Received) (c : Call) (s : Sending) → IsTrueOf s.geometry r c → IsCalled (rebuilt r) s (sending_after c s)
 called r (Lay p f) s is = kept (rebuilt r) s _ refl refl
 called r (Hear now status) s is =
     let it = heard s.geometry s.publication now status s.flow in
@@ -157,7 +157,7 @@ recorded_has stream f [] recorded has = elim has [ ]
 recorded_has stream f (x ∷ fs) recorded (inl is) = rw is recorded.0
 recorded_has stream f (x ∷ fs) recorded (inr has) = recorded_has stream f fs recorded.1 has
 
-comes_recorded : (g : Geometry) (publication : Publication) (from to : ℕ) (stream : List (ℕ × Frame)) (out : List Datagram) (f : Frame) → IsRecordedStream g publication from stream to
+pub comes_recorded : (g : Geometry) (publication : Publication) (from to : ℕ) (stream : List (ℕ × Frame)) (out : List Datagram) (f : Frame) → IsRecordedStream g publication from stream to
     → AreMadeOf stream out → MayCome out f → IsRecorded stream f
 comes_recorded g publication from to stream out f is made (inl heartbeat) = inl heartbeat
 comes_recorded g publication from to stream out f is made (inr read) =
@@ -198,7 +198,7 @@ read_below g publication from to most p stream out f is gone read here = ends wh
       let size : aligned_length f ≡ aligned_length found.at.1 = ap aligned_length found.is in
       omega (arith, low, high, at, size)
 
-comes_in_reach : (g : Geometry) (publication : Publication) (from to most : ℕ) (stream : List (ℕ × Frame)) (out : List Datagram) (r : Received) (f : Frame) → IsRecordedStream g publication from stream to
+pub comes_in_reach : (g : Geometry) (publication : Publication) (from to most : ℕ) (stream : List (ℕ × Frame)) (out : List Datagram) (r : Received) (f : Frame) → IsRecordedStream g publication from stream to
     → HaveGone stream most out → most ≤ rebuilt r + window r.geometry → MayCome out f → IsInReach r.geometry stream (rebuilt r) f
 comes_in_reach g publication from to most stream out r f is gone furthest (inl heartbeat) p here =
     absurd (no_heartbeat g publication p f (member_of g publication p f stream is.members here).lies heartbeat)
@@ -208,15 +208,15 @@ comes_in_reach g publication from to most stream out r f is gone furthest (inr r
 
 -- ---- the meeting
 
-record IsMeeting (g : Geometry) (publication : Publication) (from : ℕ) (stream : List (ℕ × Frame)) (out : List Datagram) (s : Sending) (r : Received) : Type 0 where
-  sender : IsWithinReach s
-  made : IsMadeSending stream s
-  geometry : s.geometry ≡ g
-  gone : HaveGone stream (s.flow.consumed + window s.geometry) out
-  true_of : s.flow.consumed ≤ rebuilt r
-  image : IsImageOf g publication stream from r
+pub record IsMeeting (g : Geometry) (publication : Publication) (from : ℕ) (stream : List (ℕ × Frame)) (out : List Datagram) (s : Sending) (r : Received) : Type 0 where
+  pub sender : IsWithinReach s
+  pub made : IsMadeSending stream s
+  pub geometry : s.geometry ≡ g
+  pub gone : HaveGone stream (s.flow.consumed + window s.geometry) out
+  pub true_of : s.flow.consumed ≤ rebuilt r
+  pub image : IsImageOf g publication stream from r
 
-meeting_called : (g : Geometry) (publication : Publication) (from to : ℕ) (stream : List (ℕ × Frame)) (out : List Datagram) (s : Sending) (r : Received) (c : Call) → IsRecordedStream g publication from stream to
+pub meeting_called : (g : Geometry) (publication : Publication) (from to : ℕ) (stream : List (ℕ × Frame)) (out : List Datagram) (s : Sending) (r : Received) (c : Call) → IsRecordedStream g publication from stream to
     → LaysOfStream stream c → IsTrueOf s.geometry r c → IsMeeting g publication from stream out s r → IsMeeting g publication from stream (out ++ goes_out c s) (sending_after c s) r
 meeting_called g publication from to stream out s r c is of truth so =
     let it = called r c s truth in
@@ -260,7 +260,7 @@ meets g publication from to stream (Came f ∷ ts) out s r is so meet =
     let rest = meets g publication from to stream ts out s (received r f) is (meeting_came g publication from to stream out s r f is recorded so) meet.1 in
     record { recorded = (recorded, rest.recorded); furthest = (furthest, rest.furthest) }
 
-starts : (g : Geometry) (publication : Publication) (from : ℕ) (stream : List (ℕ × Frame)) → IsMeeting g publication from stream [] (new_sending g publication from) (begun g publication from)
+pub starts : (g : Geometry) (publication : Publication) (from : ℕ) (stream : List (ℕ × Frame)) → IsMeeting g publication from stream [] (new_sending g publication from) (begun g publication from)
 starts g publication from stream = record {
   sender = all_within g publication from [];
   made = record { sent = tt; waiting = tt };

@@ -24,7 +24,7 @@ use Rattle.publication_core.proofs.ReachLemmas.{heard}
 runs_alone : (p : ℕ) (f : Frame) → 0 < aligned_length f → AreRunsOf p (alone p f ∷ []) ((p, f) ∷ []) (p + aligned_length f)
 runs_alone p f some = ((p, f) ∷ [], [], refl, refl, (refl, some, refl), sym (append-nil (stored f)), (refl, refl))
 
-runs_laid : (g : Geometry) (q p : ℕ) (f : Frame) (ds : List Datagram) (frames : List (ℕ × Frame)) → 0 < aligned_length f → AreRunsOf q ds frames p
+pub runs_laid : (g : Geometry) (q p : ℕ) (f : Frame) (ds : List Datagram) (frames : List (ℕ × Frame)) → 0 < aligned_length f → AreRunsOf q ds frames p
     → AreRunsOf q (laid g p f ds) (frames ++ (p, f) ∷ []) (p + aligned_length f)
 runs_laid g q p f [] frames some (none, at) =
     rw (none, at) (runs_alone p f some)

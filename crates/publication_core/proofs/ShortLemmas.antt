@@ -28,11 +28,11 @@ use Rattle.publication_core.proofs.MadeLemmas.{length_message, placed}
 -- ---- one frame
 
 -- an MTU has room for a header, and for what is no longer, with the zeros after it
-record HasRoomFor (mtu : ℤ) : Type 0 where
-  header : 32 ≤ unsigned_abs mtu
-  rounded : (n : ℕ) → n ≤ unsigned_abs mtu → aligned n ≤ unsigned_abs mtu
+pub record HasRoomFor (mtu : ℤ) : Type 0 where
+  pub header : 32 ≤ unsigned_abs mtu
+  pub rounded : (n : ℕ) → n ≤ unsigned_abs mtu → aligned n ≤ unsigned_abs mtu
 
-room_of : (mtu : ℤ) → is_mtu mtu ≡ true → HasRoomFor mtu
+pub room_of : (mtu : ℤ) → is_mtu mtu ≡ true → HasRoomFor mtu
 unfolding is_mtu
 room_of (pos m) is =
     let some : 32 < m = grind (arith, nat_tests, is) in
@@ -109,7 +109,7 @@ short_first g now (d ∷ ds) s waiting short =
     (λ may. record { geometry = short.geometry; sent = short_end g d s.sent short.sent waiting.0; waiting = waiting.1 })
     (λ held. short)
 
-short_call : (g : Geometry) (publication : Publication) (stream : List (ℕ × Frame)) (c : Call) (s : Sending) → AreMembers g publication stream → HasRoomFor g.mtu → LaysOfStream stream c
+pub short_call : (g : Geometry) (publication : Publication) (stream : List (ℕ × Frame)) (c : Call) (s : Sending) → AreMembers g publication stream → HasRoomFor g.mtu → LaysOfStream stream c
     → IsShort g s → IsShort g (sending_after c s)
 short_call g publication stream (Lay p f) s members room of short = record {
   geometry = short.geometry;

@@ -7,3 +7,5 @@ pub mod Copies
 pub mod Runs
 pub mod Meeting
 pub mod Order
+pub mod Keeping
+pub mod Bounded

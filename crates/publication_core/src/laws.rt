@@ -1,17 +1,23 @@
 //! Laws of the definitions, each the contract of a function that does nothing.
 
-ghost use Rattle.std.specs.Prelude.{◌≡◌, ℕ, List, [], Option, map, true};
+ghost use Rattle.std.specs.Prelude.{◌≡◌, ℕ, List, [], Option, map, true, pos};
+ghost use Rattle.std.specs.List.{AllByRecursion};
 ghost use Rattle.frame_core.specs.declared.block.Publication.{Publication};
 ghost use Rattle.frame_core.specs.declared.frame.Frame.{Frame};
 ghost use Rattle.frame_core.specs.declared.geometry.Geometry.{Geometry};
+ghost use Rattle.frame_core.specs.declared.setup.Setup.{Setup};
 ghost use Rattle.frame_core.specs.Datagram.{IsDatagram};
-ghost use Rattle.frame_core.specs.Limits.{is_mtu};
-ghost use Rattle.image_core.specs.Received.{IsChain, begun, received_all};
+ghost use Rattle.frame_core.specs.FrameEncoding.{IsAligned};
+ghost use Rattle.frame_core.specs.Limits.{is_mtu, is_term_length};
+ghost use Rattle.image_core.specs.Received.{IsBegun, IsChain, StandsFor, begun, received_all};
+ghost use Rattle.publication_core.specs.Bounded.{BoundedTurn, HasRoomForAll, MeetBounded, calls_of, image_after, offered_by};
 ghost use Rattle.publication_core.specs.declared.datagram.Datagram.{Datagram};
+ghost use Rattle.publication_core.specs.Keeping.{EndsInItsTerm, EndsPast};
 ghost use Rattle.publication_core.specs.Runs.{AreMadeOf, AreOfStream, AreShort, Call, IsMadeOf, IsWithinReach, after_calls, after_sending};
 ghost use Rattle.publication_core.specs.Meeting.{Meet, Turn, came};
 ghost use Rattle.publication_core.specs.Order.{SendsInOrder, firsts, laid_by};
 ghost use Rattle.publication_core.specs.Sending.{Sending, Sends, new_sending};
+ghost use Rattle.publication_core.specs.Signs.{IsSetupOf};
 ghost use Rattle.publication_core.specs.Copies.{AreFirst, AreInReach, AreRecorded, AreWithinLimits, BeginsWith, HaveCome, HoldsAlone, IsRecordedStream};
 
 /// An image that gets frames of a stream and heartbeats holds frames of the stream alone, wherever it joined: any of
@@ -114,4 +120,65 @@ pub fn a_publication_sends_its_frames_in_order()
         → IsChain from (laid_by calls) to
         → SendsInOrder from (laid_by calls) (firsts calls (new_sending g publication from))
         (after_calls calls (new_sending g publication from)) to }
+{}
+
+/// If the frames that are laid into a sender are those of a stream, then after any calls each datagram that was sent
+/// or waits ends at the latest where the term ends in which it begins.
+pub fn each_datagram_lies_in_one_term()
+    ensures sent { (g : Geometry) (publication : Publication) (from to : ℕ)
+        (stream : List (ℕ × Frame)) (calls : List Call)
+        → IsRecordedStream g publication from stream to → AreOfStream stream calls
+        → AllByRecursion (EndsInItsTerm g) (after_calls calls (new_sending g publication from)).sent }
+    ensures waiting { (g : Geometry) (publication : Publication) (from to : ℕ)
+        (stream : List (ℕ × Frame)) (calls : List Call)
+        → IsRecordedStream g publication from stream to → AreOfStream stream calls
+        → AllByRecursion (EndsInItsTerm g) (after_calls calls (new_sending g publication from)).waiting }
+{}
+
+/// If the frames that are laid into a sender follow one another, then after any calls each datagram that is kept for
+/// repeats ends past what was consumed.
+pub fn what_was_consumed_is_not_kept()
+    ensures { (g : Geometry) (publication : Publication) (from to : ℕ) (calls : List Call)
+        → IsChain from (laid_by calls) to
+        → let new = after_calls calls (new_sending g publication from) in
+        AllByRecursion (EndsPast new.flow.consumed) new.sent }
+{}
+
+/// If the frames that are laid into a sender follow one another, then after any calls its setup frame may be used, and
+/// begins an image at the sender position. The publication begins at a multiple of 32, with terms and an MTU in their
+/// limits.
+pub fn a_setup_frame_begins_an_image_at_the_sender_position()
+    ensures { (g : Geometry) (publication : Publication) (from to : ℕ) (calls : List Call) (setup : Setup)
+        → is_term_length g.term_length ≡ true → is_mtu g.mtu ≡ true → IsAligned (pos from)
+        → IsChain from (laid_by calls) to
+        → let position = (after_calls calls (new_sending g publication from)).flow.position in
+        IsSetupOf g publication position setup → IsBegun setup (begun g publication position) }
+{}
+
+/// A sender into which the frames of a stream are laid, one after another, and a bounded image that joined where it
+/// begins. Between them datagrams are lost, repeated, reordered and delayed, and blocks are taken of the image as one
+/// likes. Status messages name no position past what was taken of it. Then the image has room for whatever comes:
+/// nothing is lost for want of stock or window. It gets what an image would of which nothing was taken, and that
+/// makes a copy.
+pub fn what_a_sender_sends_has_room_in_a_bounded_image()
+    ensures room { (g : Geometry) (publication : Publication) (from to last : ℕ)
+        (stream : List (ℕ × Frame)) (ts : List BoundedTurn)
+        → IsRecordedStream g publication from stream to → is_mtu g.mtu ≡ true
+        → IsChain from (laid_by (calls_of ts)) last
+        → MeetBounded stream ts [] (new_sending g publication from) (begun g publication from)
+        → HasRoomForAll stream ts (begun g publication from) }
+    ensures same { (g : Geometry) (publication : Publication) (from to last : ℕ)
+        (stream : List (ℕ × Frame)) (ts : List BoundedTurn)
+        → IsRecordedStream g publication from stream to → is_mtu g.mtu ≡ true
+        → IsChain from (laid_by (calls_of ts)) last
+        → MeetBounded stream ts [] (new_sending g publication from) (begun g publication from)
+        → StandsFor (received_all (begun g publication from) (offered_by ts))
+        (image_after ts (begun g publication from)) }
+    ensures copy { (g : Geometry) (publication : Publication) (from to last front : ℕ)
+        (stream firsts : List (ℕ × Frame)) (ts : List BoundedTurn)
+        → IsRecordedStream g publication from stream to → is_mtu g.mtu ≡ true
+        → IsChain from (laid_by (calls_of ts)) last
+        → MeetBounded stream ts [] (new_sending g publication from) (begun g publication from)
+        → AreFirst from stream firsts front → HaveCome (offered_by ts) firsts
+        → BeginsWith firsts front (received_all (begun g publication from) (offered_by ts)) }
 {}

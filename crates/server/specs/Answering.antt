@@ -1,15 +1,15 @@
 -- How lines are answered by a part in a shared archive, and where no archive is open: docs/SERVING.md, "Control lines".
-use Rattle.std.specs.Prelude.{◌≡◌, ◌⊎◌, ◌++◌, ◌||◌, ℕ, ℤ, Bool, true, false, List, [], ◌∷◌, Option, None, Some, Result, Ok, Err, IsErrOf, MatchBool, remove}
+use Rattle.std.specs.Prelude.{◌≡◌, ◌⊎◌, ◌++◌, ◌||◌, ℕ, ℤ, Bool, true, false, List, [], ◌∷◌, Option, None, Some, Result, Ok, Err, IsErrOf, IsSome, MatchBool, remove}
 use Rattle.std.specs.List.{position}
 use Rattle.std.specs.Ordering.{int_eq}
 use Rattle.frame_core.specs.declared.geometry.Geometry.{Geometry}
 use Rattle.frame_core.specs.declared.refusal.Refusal.{Refusal}
-use Rattle.frame_core.specs.declared.refusal.Refusal.TheVariants.{BadLine, Broken, DeviceFault, NoMemory}
+use Rattle.frame_core.specs.declared.refusal.Refusal.TheVariants.{BadLine, Broken, DeviceFault, NoMemory, UnknownReplay}
 use Rattle.archive_model.specs.declared.reply.Reply.{Reply}
 use Rattle.archive_model.specs.declared.reply.Reply.TheVariants.{ReplayOpened}
 use Rattle.disk_core.specs.Life.{Life}
 use Rattle.control_core.specs.declared.event.Event.{Event}
-use Rattle.control_core.specs.declared.event.Event.TheVariants.{Ask, Checkpoint, ReplayClose, Settle, SettleAll}
+use Rattle.control_core.specs.declared.event.Event.TheVariants.{Ask, Checkpoint, ReplayClose, ReplayPoll, ReplayPollTo, Settle, SettleAll}
 use Rattle.control_core.specs.declared.request.Request.{Request}
 use Rattle.control_core.specs.declared.request.Request.TheVariants as requests
 use Rattle.control_core.specs.Bytes.{terms_in}
@@ -50,6 +50,16 @@ opened_replay outcome = None
 abbrev pub closed_replay : Event → Result Reply Refusal → Option ℤ
 closed_replay (ReplayClose replay) (Ok reply) = Some replay
 closed_replay event outcome = None
+
+-- the replay that a call polls
+abbrev pub polled_replay : Event → Option ℤ
+polled_replay (ReplayPoll replay most) = Some replay
+polled_replay (ReplayPollTo replay most limit) = Some replay
+polled_replay event = None
+
+-- a replay that is a follower's can't be polled: no call is made
+abbrev pub IsGuarded : {A : Type 0} → Event → A → Result Reply Refusal → A → Type 0
+IsGuarded event old outcome new = IsSome (polled_replay event) × (outcome ≡ Err UnknownReplay) × (new ≡ old)
 
 -- these replays without one
 abbrev pub is_replay : ℤ → ℤ → Bool
@@ -104,8 +114,12 @@ module _ {D : Type 0} (life : D → Life) (opening : EngineState) where
     pub same : called.checkpoints ≡ old.checkpoints
     pub follows : FollowsCall called new
 
+  -- the call is made, or a poll is of a follower's replay
+  abbrev pub CallsGuarded : Event → ClientView → Result Reply Refusal → ClientView → Type 0
+  CallsGuarded event old outcome new = CallsShared event old outcome new ⊎ IsGuarded event old outcome new
+
   abbrev pub shared_ways : Ways ClientView
-  shared_ways = record { terms = TermsAre opening; call = CallsShared; reopen = IsNoLine; compact = IsNoLine }
+  shared_ways = record { terms = TermsAre opening; call = CallsGuarded; reopen = IsNoLine; compact = IsNoLine }
 
   -- a call that closes a replay, however it is answered
   abbrev pub ClosesReplay : ℤ → ClientView → ClientView → Type 0

@@ -5,7 +5,7 @@ ghost use Rattle.std.specs.List.{position};
 ghost use Rattle.frame_core.specs.declared.refusal.Refusal.{Refusal};
 ghost use Rattle.archive_model.specs.declared.reply.Reply.{Reply};
 ghost use Rattle.control_core.specs.declared.event.Event.TheVariants.{Checkpoint};
-ghost use Rattle.server.specs.Answering.{CallsOnce, ClosesReplay, ClosesEach, EndsConnection, FollowsCall, KeepsShort, NotesOpened, NotesReplay, awaited_before, closed_replay, is_command, is_device_fault, is_replay, replays_left_by, left_open, makes_entry, may_be_last, offered_if, opened_replay, settled_after, settled_before, shared_ways};
+ghost use Rattle.server.specs.Answering.{CallsOnce, CallsShared, ClosesReplay, ClosesEach, EndsConnection, FollowsCall, KeepsShort, NotesOpened, NotesReplay, awaited_before, closed_replay, is_command, is_device_fault, is_replay, replays_left_by, left_open, makes_entry, may_be_last, offered_if, opened_replay, polled_replay, settled_after, settled_before, shared_ways};
 
 use crate::connections::{Connections, Server};
 use crate::place::Place;
@@ -197,13 +197,36 @@ impl<'a, D: Disk, A: Naming, P: Place, R: Wait, T: Reporter> Controller<'a, D, A
         self.pass
     }
 
-    /// Notes where the archive stands after a call. A checkpoint comes first, if the server makes any and one is due.
-    fn follow(&mut self, alloc: Global, standing: &Option<Standing>)
+    /// Notes where the archive stands after a call that makes an entry, and after a device fault. A checkpoint comes first, if the
+    /// server makes any and one is due. What became of one that a client asked for is noted.
+    #[tactic(auto, using(crate::proofs::ClientLemmas::not_followed))]
+    fn after_call(
+        &mut self,
+        alloc: Global,
+        event: &Event,
+        outcome: &Result<Reply, Refusal>,
+        standing: &Option<Standing>,
+    )
         ensures { FollowsCall D.life A.opening self.old self.new }
     {
-        let Some(standing) = standing else {
+        if matches!(event, Event::Checkpoint) {
+            self.noted.note_asked(outcome, standing);
             return;
-        };
+        }
+        match standing {
+            Some(standing) => {
+                if may_be_last(event, outcome) {
+                    self.follow(alloc, standing);
+                }
+            }
+            None => {}
+        }
+    }
+
+    /// Notes where the archive stands after a call. A checkpoint comes first, if the server makes any and one is due.
+    fn follow(&mut self, alloc: Global, standing: &Standing)
+        ensures { FollowsCall D.life A.opening self.old self.new }
+    {
         if self.checkpoints {
             self.noted.keep_short(alloc, &mut self.pass, standing);
         } else {
@@ -211,7 +234,17 @@ impl<'a, D: Disk, A: Naming, P: Place, R: Wait, T: Reporter> Controller<'a, D, A
         }
     }
 
-    /// ClosesReplay replays, each by a call.
+    /// Makes a call, and notes the replay that it opened or closed. A checkpoint may follow.
+    fn call_shared(&mut self, alloc: Global, event: &Event) -> Result<Reply, Refusal>
+        ensures { CallsShared D.life A.opening event.now self.old result self.new }
+    {
+        let (outcome, standing) = self.noted.call(alloc, &mut self.pass, event);
+        note_replay(&mut self.replays, event, &outcome);
+        self.after_call(alloc, event, &outcome, &standing);
+        outcome
+    }
+
+    /// Closes replays, each by a call.
     fn close_each(&mut self, alloc: Global, replays: &[i64])
         ensures { ClosesEach D.life A.opening replays.now self.old self.new }
     {
@@ -221,11 +254,11 @@ impl<'a, D: Disk, A: Naming, P: Place, R: Wait, T: Reporter> Controller<'a, D, A
         }
     }
 
-    /// ClosesReplay a replay by a call.
+    /// Closes a replay by a call.
     fn close(&mut self, alloc: Global, replay: &i64)
         ensures { ClosesReplay D.life A.opening replay.now self.old self.new }
     {
-        let _ = self.call(alloc, &Event::ReplayClose { replay: *replay });
+        let _ = self.call_shared(alloc, &Event::ReplayClose { replay: *replay });
     }
 }
 
@@ -298,6 +331,23 @@ fn closed_replay(event: &Event, outcome: &Result<Reply, Refusal>) -> Option<i64>
 {
     match (event, outcome) {
         (Event::ReplayClose { replay }, Ok(_)) => Some(*replay),
+        _ => None,
+    }
+}
+
+/// The replay that a call polls.
+fn polled_replay(event: &Event) -> Option<i64>
+    ensures { result ≡ polled_replay event.now }
+{
+    match event {
+        Event::ReplayPoll { replay, max } => {
+            let _ = max;
+            Some(*replay)
+        }
+        Event::ReplayPollTo { replay, max, limit } => {
+            let _ = (max, limit);
+            Some(*replay)
+        }
         _ => None,
     }
 }
@@ -387,14 +437,19 @@ impl<D: Disk, A: Naming, P: Place, R: Wait, T: Reporter> Answerer
     }
 
     fn call(&mut self, alloc: Global, event: &Event) -> Result<Reply, Refusal> {
-        let (outcome, standing) = self.noted.call(alloc, &mut self.pass, event);
-        note_replay(&mut self.replays, event, &outcome);
-        match event {
-            Event::Checkpoint => self.noted.note_asked(&outcome, &standing),
-            event if may_be_last(event, &outcome) => self.follow(alloc, &standing),
-            _ => {}
+        let NotedArchive { rt, with, .. } = self.noted;
+        if let Event::ReplayClose { replay } = event {
+            with.followers.end_follower(rt, *replay);
         }
-        outcome
+        let Some(replay) = polled_replay(event) else {
+            return self.call_shared(alloc, event);
+        };
+        // A follower's replay is opened under the same lock: there is no moment at which it can be polled.
+        let places = with.followers.lock(rt);
+        if places.has(replay) {
+            return Err(Refusal::UnknownReplay);
+        }
+        self.call_shared(alloc, event)
     }
 
     fn reopen(self, _alloc: Global) -> (Self, Result<Reply, Refusal>) {

@@ -60,6 +60,11 @@ impl<'a, R: Wait + Clock, T: Reporter> Client<'a, R, T> {
         self.next.lock(self.rt).take()
     }
 
+    /// The connection.
+    pub fn into_stream(self) -> TcpStream {
+        self.stream
+    }
+
     /// Whether its next line is read: it is served further, no client has quit, and the server has not stopped.
     pub fn reads_on(&self) -> bool {
         !self.is_last() && self.goes_on()
@@ -158,6 +163,6 @@ impl<R: Wait + Clock, T: Reporter> Write for ClientWriter<'_, R, T> {
 }
 
 /// Whether a read or a write has only waited as long as it may at once.
-fn is_late(error: &io::Error) -> bool {
+pub(crate) fn is_late(error: &io::Error) -> bool {
     error.kind() == ErrorKind::WouldBlock
 }

@@ -7,6 +7,8 @@ ghost use Rattle.server.specs.Clients.{AreBack, IsBack};
 
 use crate::answering::{Controller, NotedArchive};
 use crate::connections::{Connections, serve_connections};
+use crate::following::{Following, follow_by};
+use crate::openings::Openings;
 use crate::place::{Place, Places};
 use crate::unopened::Unopened;
 use archive_lock::{Made, Naming, SharedArchive};
@@ -32,17 +34,19 @@ impl Promise<Pass<Made>> for GivesBack {
     ghost kept_by = { λ p r. IsBack p.pass.value r };
 }
 
-/// Serves clients by these passes until the server ends, by a thread for each of them, the caller's among these: the passes.
-/// The server ends by `Memory` if a thread can't be made.
+/// Serves clients and followers by these passes until the server ends, by a thread for each of them, the caller's among these: the
+/// passes. The server ends by `Memory` if a client's thread can't be made.
 #[cycle(clients)]
 pub(crate) fn serve_clients<
     D: Disk + Drop + Send,
     A: Naming + Send + Sync,
     R: Threads + Wait + Clock + Sync,
     T: Reporter + Drop + Send + Sync,
+    O: Openings + Sync,
 >(
     rt: &R,
     with: &Connections<T>,
+    openings: &O,
     archive: &SharedArchive<D, A>,
     mut passes: Vec<Pass<Made>>,
 ) -> Vec<Pass<Made>>
@@ -57,7 +61,7 @@ pub(crate) fn serve_clients<
         passes.push_reserved(serve_by(rt, with, archive, pass));
         return passes;
     }
-    serve_beside(rt, with, archive, passes, pass)
+    serve_beside(rt, with, openings, archive, passes, pass)
 }
 
 /// Serves clients by a pass in a thread of its own, and by the others beside it.
@@ -67,9 +71,11 @@ fn serve_beside<
     A: Naming + Send + Sync,
     R: Threads + Wait + Clock + Sync,
     T: Reporter + Drop + Send + Sync,
+    O: Openings + Sync,
 >(
     rt: &R,
     with: &Connections<T>,
+    openings: &O,
     archive: &SharedArchive<D, A>,
     rest: Vec<Pass<Made>>,
     pass: Pass<Made>,
@@ -91,6 +97,7 @@ fn serve_beside<
             ensures back { AreBack (rest.items ++ pass ∷ []) result.items }
             ensures room { vec_capacity result ≡ vec_capacity rest }
         {
+            let index = rest.len();
             let promise = GivesBack {
                 pass: Snapshot::of(&pass),
             };
@@ -99,12 +106,13 @@ fn serve_beside<
                 move || -> Pass<Made>
                     requires { pass.table ≡ A.table }
                     ensures { IsBack pass result }
-                { serve_by(rt, with, archive, pass) },
+                { serve_place(rt, with, openings, archive, index, pass) },
             );
             if serving.is_err() {
-                with.listener.close(rt, Err(EarlyEnd::Memory));
+                lose(rt, with, index);
             }
-            let mut passes = serve_clients(rt, with, archive, rest);
+            let mut passes = serve_clients(rt, with, openings, archive, rest);
+            with.followers.end(rt);
             let pass = match serving {
                 Ok(thread) => thread.join(rt),
                 Err(refused) => (refused.value)(),
@@ -113,6 +121,41 @@ fn serve_beside<
             passes
         },
     )
+}
+
+/// Serves clients or followers by the pass of an index, those of clients first, until the server ends: the pass.
+fn serve_place<D: Disk + Drop, A: Naming, R: Wait + Clock, T: Reporter, O: Openings>(
+    rt: &R,
+    with: &Connections<T>,
+    openings: &O,
+    archive: &SharedArchive<D, A>,
+    index: usize,
+    pass: Pass<Made>,
+) -> Pass<Made>
+    requires { pass.table ≡ A.table }
+    ensures { IsBack pass result }
+{
+    match index.checked_sub(with.places.count) {
+        None => serve_by(rt, with, archive, pass),
+        Some(place) => {
+            let following = Following {
+                rt,
+                alloc: with.alloc,
+                archive,
+                with,
+                place,
+            };
+            follow_by(&following, openings, pass)
+        }
+    }
+}
+
+/// The thread of an index could not be made: the server ends by `Memory` if it is a client's; a follower's place is lost.
+fn lose<R: Wait, T: Reporter>(rt: &R, with: &Connections<T>, index: usize) {
+    match index.checked_sub(with.places.count) {
+        None => with.listener.close(rt, Err(EarlyEnd::Memory)),
+        Some(place) => with.followers.lose(rt, place),
+    }
 }
 
 /// Serves clients by a pass until the server ends: the pass.

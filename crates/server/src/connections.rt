@@ -1,6 +1,6 @@
 //! Connections, one after another, and their lines. docs/SERVING.md, "Control lines".
 
-ghost use Rattle.std.specs.Prelude.{◌≡◌, ◌↔◌, Err, IfErr, IsSome, IsTrue, OnOk};
+ghost use Rattle.std.specs.Prelude.{◌≡◌, ◌<◌, ◌↔◌, Err, IfErr, IsSome, IsTrue, OnOk};
 ghost use Rattle.std.specs.Io.KnownBytes.{Appends};
 ghost use Rattle.frame_core.specs.declared.refusal.Refusal.TheVariants.{BadLine};
 ghost use Rattle.tool_core.specs.Answering.{AnswersFirstLines, AnswersLines, EndsEarly, outcome_text};
@@ -8,12 +8,14 @@ ghost use Rattle.tool_core.specs.Transcript.{WritesText};
 
 use crate::client::{Client, ClientReader, ClientWriter, is_timed};
 use crate::first_bytes::FirstBytes;
+use crate::followers::{Claim, Followers};
 use crate::line_reader::LineReader;
 use crate::listener::SharedListener;
 use crate::options::ServeOptions;
 use crate::place::Places;
-use crate::script_reader::ScriptReader;
+use crate::script_reader::{LONGEST_FOLLOW, OwnLines, ScriptReader};
 use archive_model::Reply;
+use control_lines::{FollowFields, Line, parse_line, print_following, print_refusal};
 use frame_core::Refusal;
 use server_state::{Reporter, Shared};
 use std::alloc::Global;
@@ -46,6 +48,8 @@ pub(crate) struct ClientOptions {
     pub idle: Duration,
     /// Whether the line `images` is answered.
     pub lists_images: bool,
+    /// Whether the line `follow` is answered.
+    pub follows: bool,
     /// Whether the replays that a connection leaves open are closed.
     pub closes_replays: bool,
     /// Whether one client is served at a time. Its merge goes on in the next connection.
@@ -60,11 +64,13 @@ impl ClientOptions {
         ensures closes { IsTrue result.closes_replays ↔ IsSome options.now.clients }
         ensures single { IsTrue result.is_single ↔ (places.now.count ≡ 1) }
         ensures images { IsTrue result.lists_images ↔ IsSome options.now.window }
+        ensures follows { IsTrue result.follows ↔ (0 < places.now.followers) }
         ensures checkpoints { result.offers_checkpoints ≡ options.now.makes_checkpoints }
     {
         ClientOptions {
             idle: Duration::from_secs(options.idle_seconds),
             lists_images: options.window.is_some(),
+            follows: places.followers > 0,
             closes_replays: options.clients.is_some(),
             is_single: places.count == 1,
             offers_checkpoints: options.makes_checkpoints,
@@ -81,6 +87,39 @@ pub(crate) struct Connections<T> {
     pub socket: UdpSocket,
     pub listener: SharedListener,
     pub options: ClientOptions,
+    /// How many clients are served at a time, and how many followers.
+    pub places: Places,
+    /// Connections that are sent frames.
+    pub followers: Followers,
+}
+
+impl<T: Reporter> Connections<T> {
+    /// Whether serving has ended.
+    pub fn has_ended(&self) -> bool {
+        self.listener.is_closed() || self.shared.has_stopped() || self.shared.has_ended()
+    }
+}
+
+/// How the lines of a connection ended.
+#[derive(Clone, Copy)]
+enum ConnectionEnd {
+    /// One quit.
+    Quits,
+    /// The client ended or failed, or is served no further.
+    Ended,
+    /// The client is sent frames from now on.
+    Follows(Claim),
+}
+
+impl ConnectionEnd {
+    /// That of lines of which one quit, or none.
+    fn of(has_quit: bool) -> ConnectionEnd {
+        if has_quit {
+            ConnectionEnd::Quits
+        } else {
+            ConnectionEnd::Ended
+        }
+    }
 }
 
 /// Sees whether a line quits.
@@ -133,8 +172,8 @@ fn serve_stream<R: Wait + Clock, T: Reporter, S: Server + Drop>(
         return (state, None);
     }
     let client = Client::new(rt, &with.shared, &with.listener, with.options.idle, stream);
-    let (mut state, has_quit) = serve_client(with.alloc, &client, &with.options, state);
-    if has_quit {
+    let (mut state, end) = serve_client(rt, with, &client, state);
+    if let ConnectionEnd::Quits = end {
         with.listener.close(rt, Ok(()));
     }
     state
@@ -143,68 +182,151 @@ fn serve_stream<R: Wait + Clock, T: Reporter, S: Server + Drop>(
     if !with.options.is_single {
         state.merge = None;
     }
-    (state, client.take_next())
+    let next = client.take_next();
+    if let ConnectionEnd::Follows(claim) = end {
+        with.followers.hand(rt, &claim, client.into_stream());
+    }
+    (state, next)
 }
 
-/// Answers the lines of a client until one quits, the client ends or fails, or is served no further. Whether one quit. If its first
-/// bytes are another protocol's, that is answered, and nothing more of it is read.
+/// Answers the lines of a client until one quits or follows, the client ends or fails, or is served no further. How they ended.
+/// If its first bytes are another protocol's, that is answered, and nothing more of it is read.
 fn serve_client<R: Wait + Clock, T: Reporter, S: Answerer>(
-    alloc: Global,
+    rt: &R,
+    with: &Connections<T>,
     client: &Client<'_, R, T>,
-    options: &ClientOptions,
     state: ScriptState<S>,
-) -> (ScriptState<S>, bool) {
+) -> (ScriptState<S>, ConnectionEnd) {
     let writer = ClientWriter(client);
-    let Ok(mut writer) = BufWriter::with_capacity(alloc, WRITTEN_AT_ONCE, writer) else {
-        return (state, false);
+    let Ok(mut writer) = BufWriter::with_capacity(with.alloc, WRITTEN_AT_ONCE, writer) else {
+        return (state, ConnectionEnd::Ended);
     };
     let mut reader = FirstBytes::new(ClientReader(client));
     match reader.are_foreign() {
         Ok(false) => {}
         Ok(true) => {
-            let _ = refuse(alloc, &mut writer).is_ok() && writer.flush().is_ok();
-            return (state, false);
+            let _ = refuse(with.alloc, &mut writer).is_ok() && writer.flush().is_ok();
+            return (state, ConnectionEnd::Ended);
         }
-        Err(_) => return (state, false),
+        Err(_) => return (state, ConnectionEnd::Ended),
     }
-    if options.lists_images {
-        return serve_scripts(alloc, client, options, reader, &mut writer, state);
+    if with.options.lists_images || with.options.follows {
+        return serve_scripts(rt, with, client, reader, &mut writer, state);
     }
-    let (state, _, has_quit) = answer_script(alloc, client, options, reader, &mut writer, state);
-    (state, has_quit)
+    let (state, _, has_quit) = answer_script(
+        with.alloc,
+        client,
+        &with.options,
+        reader,
+        &mut writer,
+        state,
+    );
+    (state, ConnectionEnd::of(has_quit))
 }
 
-/// Answers the lines of a client as `serve_client`, and a line `images` between them by the images.
+/// Answers the lines of a client as `serve_client`, a line `images` between them by the images, and a line `follow` by a
+/// replay whose frames the client is sent.
 fn serve_scripts<R: Wait + Clock, T: Reporter, I: Read + Drop, W: Write, S: Answerer>(
-    alloc: Global,
+    rt: &R,
+    with: &Connections<T>,
     client: &Client<'_, R, T>,
-    options: &ClientOptions,
     reader: I,
     writer: &mut W,
     state: ScriptState<S>,
-) -> (ScriptState<S>, bool) {
-    let Ok(mut reader) = ScriptReader::new(alloc, reader) else {
-        return (state, false);
+) -> (ScriptState<S>, ConnectionEnd) {
+    let alloc = with.alloc;
+    let taken = OwnLines {
+        images: with.options.lists_images,
+        follow: with.options.follows,
+    };
+    let Ok(mut reader) = ScriptReader::new(alloc, reader, taken) else {
+        return (state, ConnectionEnd::Ended);
     };
     let mut state = state;
     for _ in 0..u64::MAX {
-        let (next, goes_on, has_quit) = answer_script(
-            alloc,
-            client,
-            options,
-            &mut reader,
-            writer,
-            state,
-        );
+        let (next, goes_on, has_quit) =
+            answer_script(alloc, client, &with.options, &mut reader, writer, state);
         state = next;
-        if has_quit || !goes_on || !client.reads_on() || !reader.takes_images() {
-            return (state, has_quit);
+        if has_quit || !goes_on || !client.reads_on() {
+            return (state, ConnectionEnd::of(has_quit));
         }
-        if !put_images(alloc, client, writer) {
-            return (state, false);
+        if let Some(end) = answer_own(rt, with, client, &mut reader, writer) {
+            return (state, end);
         }
     }
-    (state, false)
+    (state, ConnectionEnd::Ended)
+}
+
+/// Answers the line `images` or `follow`, if one of them comes next. How the lines end, if they do.
+fn answer_own<R: Wait + Clock, T: Reporter, I: Read, W: Write>(
+    rt: &R,
+    with: &Connections<T>,
+    client: &Client<'_, R, T>,
+    reader: &mut ScriptReader<I>,
+    writer: &mut W,
+) -> Option<ConnectionEnd> {
+    if reader.takes_images() {
+        return if put_images(with.alloc, client, writer) {
+            None
+        } else {
+            Some(ConnectionEnd::Ended)
+        };
+    }
+    let mut line = [0; LONGEST_FOLLOW];
+    let count = reader.take_follow(&mut line);
+    if count == 0 {
+        return Some(ConnectionEnd::Ended);
+    }
+    match asked_by(with.alloc, &line[..count]) {
+        Ok(fields) => answer_follow(rt, with, &fields, writer),
+        Err(refusal) => put_refusal(&refusal, writer),
+    }
+}
+
+/// What a line asks for that begins with `follow`.
+fn asked_by(alloc: Global, line: &[u8]) -> Result<FollowFields, Refusal> {
+    let line = line.strip_suffix(b"\n").unwrap_or(line);
+    match parse_line(alloc, line)? {
+        Line::Follow(fields) => Ok(fields),
+        _ => Err(Refusal::BadLine),
+    }
+}
+
+/// Answers the line `follow`. How the lines end, if they do: the client is sent frames from then on, or the answer did not go
+/// out.
+fn answer_follow<R: Wait + Clock, T: Reporter, W: Write>(
+    rt: &R,
+    with: &Connections<T>,
+    fields: &FollowFields,
+    writer: &mut W,
+) -> Option<ConnectionEnd> {
+    let (claim, position) = match with.followers.ask(rt, fields) {
+        Ok(asked) => asked,
+        Err(refusal) => return put_refusal(&refusal, writer),
+    };
+    if put_following(with.alloc, position, writer) {
+        return Some(ConnectionEnd::Follows(claim));
+    }
+    with.followers.give_up(rt, &claim);
+    Some(ConnectionEnd::Ended)
+}
+
+/// Writes the line behind which frames come. Whether it went out.
+fn put_following<W: Write>(alloc: Global, position: i64, writer: &mut W) -> bool {
+    match print_following(alloc, position) {
+        Ok(text) => writer.write_all(text.as_slice()).is_ok() && writer.flush().is_ok(),
+        Err(_) => false,
+    }
+}
+
+/// Writes a refusal's line. How the lines end, if it did not go out.
+fn put_refusal<W: Write>(refusal: &Refusal, writer: &mut W) -> Option<ConnectionEnd> {
+    let line = print_refusal(refusal);
+    if writer.write_all(line.as_bytes()).is_ok() && writer.flush().is_ok() {
+        None
+    } else {
+        Some(ConnectionEnd::Ended)
+    }
 }
 
 /// Answers the lines that a reader gives of a client, a line at a time if others are served meanwhile. Whether all were

@@ -1,6 +1,6 @@
 //! How many clients are served at a time, and the passes that they call with.
 
-ghost use Rattle.std.specs.Prelude.{◌≡◌, ◌≤◌};
+ghost use Rattle.std.specs.Prelude.{◌≡◌, ◌≤◌, if◌then◌else◌};
 ghost use Rattle.server.specs.Clients.{places_of};
 
 use std::marker::Brand;
@@ -20,22 +20,30 @@ impl Place for Brand {
     ghost number = { 0 };
 }
 
-/// How many clients are served at a time.
+/// How many followers there are at a time, at most.
+pub(crate) const MAX_FOLLOWERS: usize = 60;
+
+/// How many clients are served at a time, and how many followers.
 #[derive(Clone, Copy)]
 pub(crate) struct Places {
     pub count: usize,
+    pub followers: usize,
     ghost some: { 1 ≤ count },
     ghost few: { count ≤ 64 },
+    ghost few_followers: { followers ≤ 60 },
 }
 
 impl Places {
-    /// As many as an option asks for: 1 at least, which it is without the option, and 64 at most.
-    pub fn of(clients: Option<u32>) -> Places
-        ensures { result.count ≡ places_of clients }
+    /// As many clients as an option asks for: 1 at least, which it is without the option, and 64 at most. 60 followers, if
+    /// there are any.
+    pub fn of(clients: Option<u32>, follows: bool) -> Places
+        ensures count { result.count ≡ places_of clients }
+        ensures followers { result.followers ≡ (if follows then 60 else 0) }
     {
         let count = clients.unwrap_or(1).clamp(1, MAX_CLIENTS);
         Places {
             count: count as usize,
+            followers: if follows { MAX_FOLLOWERS } else { 0 },
         }
     }
 }

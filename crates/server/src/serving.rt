@@ -10,7 +10,9 @@ ghost use Rattle.server.specs.Serving.{EndsHistory, EndsOrLacks, EndsUpTo, IsSer
 
 use crate::clients::{serve_clients, serve_unopened};
 use crate::connections::{ClientOptions, Connections};
+use crate::followers::Followers;
 use crate::listener::SharedListener;
+use crate::openings::Openings;
 use crate::options::ServeOptions;
 use crate::place::Places;
 use crate::served::{Served, stuck_by, unopened_stop};
@@ -157,11 +159,15 @@ pub fn serve_with<
 /// Serves the archive of a disk as `serve_with`. Where several sessions are to settle and syncs are slow, their segment files are
 /// flushed first, beside the archive: by as many further threads as the flusher wants, 8 at most. It is to flush files of that
 /// disk. docs/SERVING.md, "When a frame is durable".
+///
+/// Connections may follow a recording, if the disk can be opened again and more than one client is served or images are listed: 60
+/// at a time at most, each by a thread of its own, which reads by an opening of its own. docs/SERVING.md, "Consumers". Costs a
+/// megabyte more for each.
 pub fn serve_flushing<
     R: Threads + Wait + Clock + Sync,
     D: Disk + Drop + Send,
     T: Reporter + Drop + Send + Sync,
-    F: Flusher + Sync,
+    F: Flusher + Openings + Sync,
 >(
     rt: &R,
     alloc: Global,
@@ -184,17 +190,22 @@ pub fn serve_flushing<
     let (Ok(tools), Ok(seat_room)) = (Tools::new(alloc, options), SeatRoom::new(alloc)) else {
         return Err(ScriptFault::Memory(disk));
     };
+    let places = Places::of(options.clients, may_follow(options, flusher));
+    let Ok(followers) = Followers::new(alloc, places.followers) else {
+        return Err(ScriptFault::Memory(disk));
+    };
     let (archive, beginning) = match ScriptArchive::of_disk(alloc, disk) {
         Ok(found) => found,
         Err(disk) => return Err(ScriptFault::Memory(disk)),
     };
-    let places = Places::of(options.clients);
     let lines = Connections {
         alloc,
         shared,
         socket,
         listener: SharedListener::new(rt, listener, &places),
         options: ClientOptions::of(options, &places),
+        places,
+        followers,
     };
     let serving = Serving {
         rt,
@@ -216,6 +227,12 @@ pub fn serve_flushing<
     handed_back(served, end)
 }
 
+/// Whether connections may follow: the disk can be opened again, and more than one client is served or images are listed.
+fn may_follow<O: Openings>(options: &ServeOptions<'_>, openings: &O) -> bool {
+    let serves_several = options.clients.unwrap_or(1) > 1 || options.window.is_some();
+    serves_several && openings.can_open()
+}
+
 /// What the threads of a server know of its options.
 fn shared_by(options: &ServeOptions<'_>) -> SharedOptions {
     SharedOptions {
@@ -231,7 +248,7 @@ fn serve_archive<
     R: Threads + Wait + Clock + Sync,
     D: Disk + Drop + Send,
     T: Reporter + Drop + Send + Sync,
-    F: Flusher + Sync,
+    F: Flusher + Openings + Sync,
 >(
     with: &Serving<'_, R, T, F>,
     tools: Tools,
@@ -282,7 +299,7 @@ fn serve_open<
     R: Threads + Wait + Clock + Sync,
     D: Disk + Drop + Send,
     T: Reporter + Drop + Send + Sync,
-    F: Flusher + Sync,
+    F: Flusher + Openings + Sync,
 >(
     with: &Serving<'_, R, T, F>,
     tools: Tools,
@@ -298,13 +315,13 @@ fn serve_open<
     serve_named::<D, Brand, R, T, F>(with, tools, seat_room, opened, engine)
 }
 
-/// Serves an archive that has a pass for the thread that records and one for each client.
+/// Serves an archive that has a pass for the thread that records and one for each client and follower.
 fn serve_named<
     D: Disk + Drop + Send,
     A: Naming + Send + Sync,
     R: Threads + Wait + Clock + Sync,
     T: Reporter + Drop + Send + Sync,
-    F: Flusher + Sync,
+    F: Flusher + Openings + Sync,
 >(
     with: &Serving<'_, R, T, F>,
     tools: Tools,
@@ -313,14 +330,14 @@ fn serve_named<
     engine: Engine<D>,
 ) -> (Served<D>, Result<(), EarlyEnd>)
     requires named { opened.table ≡ A.table }
-    requires counts { A.passes ≡ 1 + with.now.places.count }
+    requires counts { A.passes ≡ 1 + with.now.places.count + with.now.places.followers }
     requires stores { opened.keeps ≡ A.keeps }
     requires opens { engine_seen D.life (view_of engine []) ≡ A.opening }
     ensures { EndsOrLacks (D.life engine.archive.storage.disk) A.opening with.now.is_strict
         (D.life result.0.disk) result.0.stop result.1 }
 {
     let places = with.places;
-    let count = 1 + places.count;
+    let count = 1 + places.count + places.followers;
     let Ok(room) = Vec::with_capacity(with.alloc, count) else {
         return lacking(engine);
     };
@@ -354,7 +371,7 @@ fn serve_shared<
     A: Naming + Send + Sync,
     R: Threads + Wait + Clock + Sync,
     T: Reporter + Drop + Send + Sync,
-    F: Flusher + Sync,
+    F: Flusher + Openings + Sync,
 >(
     with: &Serving<'_, R, T, F>,
     tools: Tools,
@@ -377,6 +394,7 @@ fn serve_shared<
         socket,
         shared,
         lines,
+        flusher,
         ..
     } = with;
     thread::scope(
@@ -404,7 +422,7 @@ fn serve_shared<
                     Err(EarlyEnd::Memory),
                 );
             };
-            let clients = serve_clients(*rt, lines, archive, clients);
+            let clients = serve_clients(*rt, lines, *flusher, archive, clients);
             shared.end(socket);
             let is_whole = receiver.join(*rt);
             (
@@ -419,7 +437,7 @@ fn serve_shared<
 fn serve_closed<
     R: Threads + Wait + Clock + Sync,
     T: Reporter + Drop + Send + Sync,
-    F: Flusher + Sync,
+    F: Flusher + Openings + Sync,
 >(with: &Serving<'_, R, T, F>, tools: Tools) -> Result<(), EarlyEnd> {
     let Tools {
         images,
@@ -427,8 +445,9 @@ fn serve_closed<
         buffer,
         batch: _,
     } = tools;
-    // No thread records: nobody waits for one.
+    // No thread records, and none sends frames: nobody waits for one.
     with.shared.queue.leave(with.rt);
+    with.lines.followers.end(with.rt);
     thread::scope(thread::scope_env(), with.rt, |scope| {
         let receiver = scope.spawn(move || receive(with, images, senders, buffer));
         let Ok(receiver) = receiver else {

@@ -45,6 +45,7 @@ impl Happening<'_> {
             Happening::Gap(news) => news.is_fault(),
             Happening::Resume(news) => news.is_fault(),
             Happening::Session(news) => news.is_fault(),
+            Happening::Client(news) => news.is_fault(),
             _ => false,
         }
     }

@@ -23,6 +23,7 @@ mod reporter;
 mod resume_news;
 mod resuming;
 mod session_news;
+mod settle_notice;
 mod shared;
 mod stopwatch;
 
@@ -42,5 +43,6 @@ pub use reporter::{LineReporter, Reporter, Unreported};
 pub use resume_news::{HoleCause, ResumeNews};
 pub use resuming::{Resumes, Stand, is_resumable, is_same_stream, is_within_reach, reach};
 pub use session_news::SessionNews;
+pub use settle_notice::SettleNotice;
 pub use shared::{ReceivedMeasures, Resumption, Shared, SharedOptions, WaitingImage};
 pub use stopwatch::Stopwatch;

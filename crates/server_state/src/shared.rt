@@ -20,6 +20,7 @@ use crate::queue::Queue;
 use crate::reporter::Reporter;
 use crate::resuming::{Resumes, Stand, is_resumable};
 use crate::session_news::SessionNews;
+use crate::settle_notice::SettleNotice;
 use archive_model::Reply;
 use control_core::Event;
 use frame_core::Refusal;
@@ -87,6 +88,8 @@ pub struct Shared<T> {
     origins: Mutex<Origins>,
     /// Blocks on their way.
     pub queue: Queue,
+    /// Wakes those who wait until something more is settled.
+    pub settles: SettleNotice,
     /// What is counted.
     pub counts: Counts,
     /// What is counted for the metrics alone.
@@ -120,6 +123,7 @@ impl<T: Reporter> Shared<T> {
             pairing: Mutex::new(Pairing::new(pairs, options.gives_back)),
             origins: Mutex::new(Origins::new()),
             queue: Queue::new(alloc)?,
+            settles: SettleNotice::new(),
             counts: Counts::new(alloc)?,
             meter: Meter::new(options.is_measured),
             checkpointing: Checkpointing::new(options.makes_checkpoints),
@@ -248,6 +252,10 @@ impl<T: Reporter> Shared<T> {
                     Reply::Started { session, .. } | Reply::Extended { session } => {
                         self.report_session(rt, *session);
                         true
+                    }
+                    Reply::Settled { .. } => {
+                        self.settles.note(rt);
+                        false
                     }
                     _ => false,
                 }
@@ -485,6 +493,7 @@ impl<T: Reporter> Shared<T> {
     /// A session settled, and is recorded up to a position.
     pub fn settled<R: Wait>(&self, rt: &R, session: i64, position: i64) {
         settle(&mut self.pairing.lock(rt).pairs, session, position);
+        self.settles.note(rt);
     }
 
     /// The open session that writes a recording is to settle at once, if there is one. Its seat. Waits for nothing.

@@ -3,10 +3,10 @@ use Rattle.std.specs.Prelude.{◌≡◌, ◌⊎◌, ◌&&◌, ◌≤ℤ◌, ◌-
 use Rattle.frame_core.specs.declared.frame.Frame.{Frame}
 use Rattle.frame_core.specs.declared.refusal.Refusal.{Refusal}
 use Rattle.frame_core.specs.ReplayEnd.{bound_of}
+use Rattle.frame_core.specs.Segment.{segment_base}
 use Rattle.disk_core.specs.DiskImage.{DiskImage}
 use Rattle.disk_core.specs.Life.{Life}
 use Rattle.segment_store.specs.declared.layout.Layout.{Layout}
-use Rattle.segment_store.specs.Layout.{base_of}
 use Rattle.archive_model.specs.declared.descriptor.Descriptor.{Descriptor}
 use Rattle.archive_model.specs.declared.registration.Registration.{Registration}
 use Rattle.archive_model.specs.declared.reply.PolledFrame.{PolledFrame}
@@ -20,7 +20,7 @@ use Rattle.settled_replays.specs.Holding.{HeldView, Looks, MovesOn, SeesNothing,
 abbrev pub segment_in : Layout → ℤ → Option ℤ
 segment_in l position =
     if int_lt (pos 0) l.term_length && int_lt (pos 0) l.segment_length && int_le (pos 0) l.start_position && int_le l.start_position position
-    then Some (pos (base_of l (unsigned_abs position))) else None
+    then Some (pos (segment_base (unsigned_abs l.start_position) (unsigned_abs l.term_length) (unsigned_abs l.segment_length) (unsigned_abs position))) else None
 
 -- a segment begins further on than a position
 abbrev pub is_ahead : ℤ → Option ℤ → Bool

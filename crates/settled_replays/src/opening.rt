@@ -68,8 +68,9 @@ fn opened_for(descriptor: &Descriptor, position: i64) -> i64
     if descriptor.term_length <= 0 || start < 0 || position < start {
         return position;
     }
-    let offset = position % i64::from(descriptor.term_length);
-    start.max(position - offset)
+    let at = position.unsigned_abs();
+    let term = at - at % u64::from(descriptor.term_length.unsigned_abs());
+    start.unsigned_abs().max(term) as i64
 }
 
 /// Takes frames, and keeps nothing of them.

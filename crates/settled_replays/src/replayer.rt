@@ -75,7 +75,8 @@ impl<E: Disk> SettledReplayer<E> {
         ensures refused { IfErr result (RefusesReading D.life A.opening T.takes T.leaves taker.old taker.new
             (E.life self.new.reader.disk).obeys (reads (E.life self.old.reader.disk).now) most self.old.held self.new.held
             self.old.reader.cursor self.new.reader.cursor) }
-        ensures cursor { self.new.reader.cursor.replay ≡ record self.old.reader.cursor.replay { next = self.new.reader.cursor.replay.next } }
+        ensures cursor { (self.new.reader.cursor.known.descriptor ≡ self.old.reader.cursor.known.descriptor)
+            × (self.new.reader.cursor.replay ≡ record self.old.reader.cursor.replay { next = self.new.reader.cursor.replay.next }) }
         ensures pass { (self.new.held.pass.table ≡ self.old.held.pass.table)
             × (self.new.held.pass.number ≡ self.old.held.pass.number) }
         ensures quiet { IsQuiet (E.life self.old.reader.disk) (E.life self.new.reader.disk) }
@@ -128,6 +129,13 @@ impl<E: Disk> SettledReplayer<E> {
         ensures { result ≡ self.now.reader.cursor.replay.next }
     {
         self.reader.next_position()
+    }
+
+    /// The recording's id. Does not allocate.
+    pub fn recording(&self) -> i64
+        ensures { result ≡ self.now.held.recording }
+    {
+        self.held.recording()
     }
 
     /// The number of the archive's replay, which changes as it moves on. Does not allocate.

@@ -36,6 +36,8 @@ impl<E: Disk> SettledReplayer<E> {
             self.old.reader.cursor.replay most self.new.reader.cursor.replay.next) }
         ensures looked { OnOk result (LooksIfRead D.life A.opening self.old.held self.old.reader.cursor.replay.next self.new.held) }
         ensures refused { OnErr result ((sent.new ≡ []) × (self.new.reader.cursor.replay ≡ self.old.reader.cursor.replay)) }
+        ensures cursor { (self.new.reader.cursor.known.descriptor ≡ self.old.reader.cursor.known.descriptor)
+            × (self.new.reader.cursor.replay ≡ record self.old.reader.cursor.replay { next = self.new.reader.cursor.replay.next }) }
         ensures pass { (self.new.held.pass.table ≡ self.old.held.pass.table)
             × (self.new.held.pass.number ≡ self.old.held.pass.number) }
         ensures quiet { IsQuiet (E.life self.old.reader.disk) (E.life self.new.reader.disk) }

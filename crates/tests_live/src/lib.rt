@@ -7,6 +7,8 @@ mod agents;
 #[cfg(test)]
 mod archives;
 #[cfg(test)]
+mod checkpoints;
+#[cfg(test)]
 mod client;
 #[cfg(test)]
 mod conversations;
@@ -16,6 +18,8 @@ mod crowds;
 mod ends;
 #[cfg(test)]
 mod failing;
+#[cfg(test)]
+mod followers;
 #[cfg(test)]
 mod held_back;
 #[cfg(test)]

@@ -110,7 +110,7 @@ pub(crate) fn served_with<
 }
 
 /// Whether `quit` is answered by `bye`.
-fn quits<R: Net<Listener = TcpListener, Stream = TcpStream>>(
+pub(crate) fn quits<R: Net<Listener = TcpListener, Stream = TcpStream>>(
     rt: &R,
     alloc: Global,
     ports: Ports,

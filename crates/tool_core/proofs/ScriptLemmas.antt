@@ -19,7 +19,7 @@ use Rattle.tool_core.proofs.CheckpointLemmas.{one_script, prepared, prepares_goe
 use Rattle.tool_core.proofs.BeginLemmas.{Starts, starts}
 use Rattle.tool_core.proofs.GoesOnLemmas.{answer_goes_on}
 use Rattle.tool_core.proofs.LineLemmas.{IsScene, answered, at_scene, scene_at}
-use Rattle.tool_core.proofs.SeenLemmas.{replies_seen, state_seen}
+use Rattle.tool_core.proofs.SeenLemmas.{is_answer, replies_seen, state_seen}
 use Rattle.tool_core.proofs.SimulationLemmas.{all_as, all_good, some_as, some_good}
 use Rattle.tool_core.proofs.StandingLemmas.{IsOfDisk, standing_left}
 use Rattle.tool_core.proofs.OpeningLemmas.{OneState}
@@ -74,9 +74,9 @@ module _ (makes : Bool) {A : Type 0} (view : A → SeenArchive) (of_disk : (arch
   back s line reply t replies obeys = was_obeyed makes (at s) line reply (at t) (replies_seen view archive_ways (script_checkpoints makes) s line reply t replies) obeys
 
   step : (s : ScriptState A) (line : Option (List ℕ)) (reply : List ℕ) (t : ScriptState A) (x : Scene) → Replies ways checkpoints s line reply t → Good t → IsAt s x → (y : Scene) × IsAt t y × AnswersScene makes x line reply y
-  step s line reply t x replies obeys is =
-      let there = replies_seen view archive_ways (script_checkpoints makes) s line reply t replies in
-      one_line makes (at s) there.0 line reply (at t) x (of_disk s.archive) (of_disk replies.0.archive) obeys is there.1 there.2
+  step s line reply t x (mid, prepares, outcome, answer, text) obeys is =
+      one_line makes (at s) (at mid) line reply (at t) x (of_disk s.archive) (of_disk mid.archive) obeys is prepares
+      (outcome, is_answer view archive_ways (asked_copies line) mid (asked ((script_checkpoints makes).offers (view mid.archive)) line) outcome t answer, text)
 
   module _ (new : Life) (last : ScriptState A) (left : new ≡ life_of (view last.archive)) (obeys : IsTrue new.obeys) where
     scene_left : (s : ScriptState A) (x : Scene) → s ≡ last → IsAt s x → LeavesScene new x

@@ -44,7 +44,7 @@ module _ {A B : Type 0} (view : A → B) (ways : Ways B) where
   read_line_is old (Ok line) outcome new is = line_is old line outcome new is
   read_line_is old (Err refusal) outcome new is = (is.0, ap state_seen is.1)
 
-  is_answer : (takes : Bool) (old : ScriptState A) (line : Result Line Refusal) (outcome : Result Reply Refusal) (new : ScriptState A) → IsAnswer Seen takes old line outcome new → IsAnswer ways takes (state_seen old) line outcome (state_seen new)
+  pub is_answer : (takes : Bool) (old : ScriptState A) (line : Result Line Refusal) (outcome : Result Reply Refusal) (new : ScriptState A) → IsAnswer Seen takes old line outcome new → IsAnswer ways takes (state_seen old) line outcome (state_seen new)
   is_answer takes old line outcome new (inl is) = inl (read_line_is old line outcome new is)
   is_answer takes old line outcome new (inr (takes_it, want, same)) = inr (takes_it, want, ap state_seen same)
 

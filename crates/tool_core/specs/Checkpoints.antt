@@ -1,6 +1,8 @@
 -- When a checkpoint is due, and what a script that makes checkpoints does before each line: docs/STORAGE.md, "Checkpoints".
 use Rattle.std.specs.Prelude.{◌≡◌, ℕ, Bool, true, false, ◌&&◌, ◌-◌, ◌*◌, nat_lt, nat_le, MatchBool, Result, Ok, ◌⊎◌}
 use Rattle.frame_core.specs.declared.refusal.Refusal.{Refusal}
+use Rattle.disk_core.specs.declared.disk.Disk as Disk
+use Rattle.disk_core.specs.Life.{Life}
 use Rattle.archive_model.specs.declared.reply.Reply.{Reply}
 use Rattle.archive_model.specs.Register.{active_count}
 use Rattle.control_core.specs.declared.event.Event.TheVariants as events
@@ -9,7 +11,8 @@ use Rattle.control_lines.specs.declared.line.Line.TheVariants as lines
 use Rattle.engine_core.specs.Calls.{AnswersEvent}
 use Rattle.engine_core.specs.Engine.{EngineState}
 use Rattle.tool_core.specs.Answering.{Checkpointing, no_checkpoints}
-use Rattle.tool_core.specs.Archives.{Closed, Open, SeenArchive}
+use Rattle.tool_core.specs.declared.checkpoints.CheckpointedArchive.{CheckpointedArchive}
+use Rattle.tool_core.specs.Archives.{Closed, Open, SeenArchive, archive_seen}
 use Rattle.tool_core.specs.ScriptLines.{ReadLineEnds, Scene, Standing, opened, unknown}
 
 -- more entries count than recordings are active, and at least half of what may count beyond those
@@ -19,6 +22,10 @@ is_checkpoint_due counted active limit = nat_lt active counted && nat_le (limit 
 -- so it is by the desk
 abbrev pub checkpoint_due : DeskState → Bool
 checkpoint_due d = is_checkpoint_due d.counted (active_count d.register) d.limit
+
+-- what is seen of an archive of which checkpoints are made
+abbrev pub checkpointed_seen : {D : Type 0} {dg : Disk.Ghosts D} → (D → Life) → CheckpointedArchive D dg → SeenArchive
+checkpointed_seen life archive = archive_seen life archive.archive
 
 -- ---- whatever the archive is
 

@@ -1,16 +1,16 @@
 //! Checkpoints that are made while an archive is used. docs/STORAGE.md, "Checkpoints".
 
-ghost use Rattle.std.specs.Prelude.{◌≡◌};
+ghost use Rattle.std.specs.Prelude.{◌≡◌, true};
 ghost use Rattle.engine_core.specs.Seen.{seen};
 ghost use Rattle.tool_core.specs.Answering.{checkpointing_seen, ways_seen};
-ghost use Rattle.tool_core.specs.Archives.{archive_seen, archive_ways};
-ghost use Rattle.tool_core.specs.Checkpoints.{MakesDue, is_checkpoint_due, script_checkpoints};
+ghost use Rattle.tool_core.specs.Archives.{archive_ways};
+ghost use Rattle.tool_core.specs.Checkpoints.{MakesDue, checkpoint_due, checkpointed_seen, is_checkpoint_due, script_checkpoints};
 
 use crate::answerer::Answerer;
 use crate::archive::ScriptArchive;
 use crate::history::HistoryUse;
 use archive_model::Reply;
-use control_core::Event;
+use control_core::{Desk, Event};
 use control_lines::print_refusal;
 use disk_core::Disk;
 use engine_core::Engine;
@@ -79,9 +79,9 @@ pub struct CheckpointedArchive<D: Disk> {
 }
 
 impl<D: Disk> Answerer for CheckpointedArchive<D> {
-    ghost ways = { ways_seen (λ a. archive_seen D.life a.archive) archive_ways };
+    ghost ways = { ways_seen (checkpointed_seen D.life) archive_ways };
 
-    ghost checkpoints = { checkpointing_seen (λ a. archive_seen D.life a.archive) (script_checkpoints true) };
+    ghost checkpoints = { checkpointing_seen (checkpointed_seen D.life) (script_checkpoints true) };
 
     fn terms(&mut self, session: &i64) -> Result<Geometry, Refusal> {
         self.archive.terms(session)
@@ -118,15 +118,21 @@ impl<D: Disk> Answerer for CheckpointedArchive<D> {
     }
 }
 
+/// Whether a checkpoint of an archive with this desk is due.
+fn is_due(desk: &Desk) -> bool
+    ensures { result ≡ checkpoint_due desk.now.state }
+{
+    is_checkpoint_due(desk.counted(), desk.active_count() as u64, desk.limit())
+}
+
 /// Makes a checkpoint, if one is due. What became of it.
 fn make_due<D: Disk>(alloc: Global, engine: &mut Engine<D>) -> Option<CheckpointOutcome>
     ensures { MakesDue (seen D.life engine.old) (seen D.life engine.new) }
 {
-    let desk = engine.desk();
-    let entries = desk.counted();
-    if !is_checkpoint_due(entries, desk.active_count() as u64, desk.limit()) {
+    if !is_due(engine.desk()) {
         return None;
     }
+    let entries = engine.desk().counted();
     let outcome = engine.step(alloc, &Event::Checkpoint);
     let left = engine.desk().counted();
     Some(CheckpointOutcome::new(entries, &outcome, left))

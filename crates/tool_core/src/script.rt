@@ -74,8 +74,10 @@ fn outcome_of<A: Answerer>(
     }
     let offers = state.archive.offers_checkpoints();
     match parse_line(alloc, bytes) {
-        Ok(line) if is_checkpoint(&line) && !offers => (state, Err(Refusal::BadLine), false),
         Ok(line) => {
+            if is_checkpoint(&line) && !offers {
+                return (state, Err(Refusal::BadLine), false);
+            }
             let (state, outcome) = state.answer(alloc, &line);
             (state, outcome, false)
         }
@@ -294,7 +296,8 @@ pub fn run_checkpointed_script<R: Read + Drop, W: Write, D: Disk, O: Observer>(
     report_history(&archive, observer);
     let state = ScriptState::new(CheckpointedArchive { archive });
     let (state, outcome) = answer_lines(alloc, reader, writer, state, observer);
-    let disk = state.into_archive().archive.into_disk();
+    let CheckpointedArchive { archive } = state.into_archive();
+    let disk = archive.into_disk();
     match outcome {
         Ok(()) => Ok(disk),
         Err(end) => Err(ScriptFault::new(end, disk)),

@@ -30,7 +30,7 @@ returns-in-run c = record {
   named = search rules;
   words = (
     text_given (found_of c.args.own.now) (codes "folder") _ _ c.get_str-in-run.ensures refl,
-    flag_given (found_of c.args.own.now) (codes "checkpoints") _ c.get_flag-in-run.ensures.none c.get_flag-in-run.ensures.value c.get_flag-in-run.ensures.other,
+    flag_given (found_of c.args.own.now) (codes "checkpoints") _ c.get_flag.ensures.none c.get_flag.ensures.value c.get_flag.ensures.other,
     number_if (λ text x. ParsesUnsigned 32 10 text x × ExplainsUnsignedError 10 text x × HasUnsignedDigitsIfOk text x) (λ text x read. read.0)
         (found_of c.args.own.now) (codes "wait") _ c.get_one-in-run.ensures.none c.get_one-in-run.ensures.value,
   );

@@ -1,7 +1,7 @@
 -- What becomes of a disk whose server ended.
 use Rattle.tool_core.specs.Archives.{archive_seen}
 use Rattle.server.proofs.ServingLemmas.{served_back, served_early, stopped_back}
-use Rattle.server.proofs.serving.serve_with.Goals as goal
+use Rattle.server.proofs.serving.serve_flushing.Goals as goal
 
 pub returns-clause-served : goal.returns-clause-served
 returns-clause-served g c =

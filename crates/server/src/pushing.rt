@@ -1,0 +1,173 @@
+//! What a follower is sent: frames as they are settled, and heartbeats. docs/PROTOCOL.md, "Followers".
+
+ghost use Rattle.std.specs.Prelude.{◌≡◌};
+
+use crate::follower_connection::FollowerConnection;
+use crate::following::Following;
+use archive_lock::Naming;
+use archive_model::Descriptor;
+use disk_core::Disk;
+use frame_core::{Geometry, Publication, Refusal};
+use server_state::Reporter;
+use settled_replays::{SentFrames, SettledReplayer, Sign, sign_at};
+use std::io::Write;
+use std::rt::Clock;
+use std::sync::Wait;
+use std::time::{Duration, Instant};
+
+/// Milliseconds for which a thread waits for frames at once at most, so that a heartbeat goes out each 100.
+const LOOK: u64 = 80;
+
+/// Bytes of frames that are read at once, about.
+const READ_AT_ONCE: i64 = 1_048_576;
+
+/// How a follower's frames ended.
+#[derive(Clone, Copy, Debug, PartialEq, Eq)]
+pub(crate) enum FollowEnd {
+    /// It was told that no frame comes any more.
+    Done,
+    /// It was told that no frame can be sent any more, for this reason.
+    Failed(Refusal),
+    /// The server ends, or a client asked to close the replay: what was sent was sent whole.
+    Stopped,
+    /// The connection is gone, or took too little: how much of what was written last went out isn't known.
+    Gone,
+}
+
+/// What is followed: of which stream heartbeats are, and how many frames are read at once at most.
+#[derive(Clone, Copy)]
+pub(crate) struct FollowedStream {
+    pub geometry: Geometry,
+    pub publication: Publication,
+    pub most: i64,
+}
+
+impl FollowedStream {
+    /// That of a recording.
+    pub fn of(descriptor: &Descriptor) -> FollowedStream {
+        FollowedStream {
+            geometry: descriptor.geometry(),
+            publication: Publication {
+                session_id: descriptor.session_id,
+                stream_id: descriptor.stream_id,
+            },
+            most: (READ_AT_ONCE / i64::from(descriptor.mtu.max(1))).clamp(1, 4_096),
+        }
+    }
+}
+
+/// Sends the frames of a replay as they are settled, and a heartbeat each 100 milliseconds while nothing comes, until there is no
+/// more.
+pub(crate) fn send_all<D: Disk, A: Naming, E: Disk, R: Wait + Clock, T: Reporter, W: Write>(
+    following: &Following<'_, D, A, R, T>,
+    stream: &FollowedStream,
+    connection: &FollowerConnection<'_, R, T>,
+    replayer: &mut SettledReplayer<E>,
+    sent: &mut SentFrames,
+    writer: &mut W,
+) -> FollowEnd
+    requires { replayer.old.held.pass.table ≡ A.table }
+    ensures pass { (replayer.new.held.pass.table ≡ replayer.old.held.pass.table) × (replayer.new.held.pass.number ≡ replayer.old.held.pass.number) }
+{
+    let mut quiet = Instant::now(following.rt).ok();
+    for _ in following.rt.forever() {
+        if !connection.goes_on() {
+            return FollowEnd::Stopped;
+        }
+        let settled = following.with.shared.settles.count(following.rt);
+        if let Some(end) = send_next(following, stream, replayer, sent, writer) {
+            return end;
+        }
+        if sent.as_slice().is_empty() {
+            connection.rest();
+            if is_quiet(following.rt, quiet) {
+                if !tell(stream, replayer, Sign::Alive, writer) {
+                    return FollowEnd::Gone;
+                }
+                quiet = Instant::now(following.rt).ok();
+            }
+            following.with.shared.settles.wait(following.rt, settled, LOOK);
+        } else {
+            quiet = Instant::now(following.rt).ok();
+        }
+    }
+    unreachable!()
+}
+
+/// Whether nothing was sent for so long that a heartbeat is due. Where the clock can't be read one is.
+fn is_quiet<R: Clock>(rt: &R, since: Option<Instant>) -> bool {
+    match (since, Instant::now(rt)) {
+        (Some(since), Ok(now)) => now.duration_since(since) >= Duration::from_millis(LOOK),
+        _ => true,
+    }
+}
+
+/// Sends the next frames of a replay, if there are any; how it ended, if there are none any more.
+fn send_next<D: Disk, A: Naming, E: Disk, R: Wait, T: Reporter, W: Write>(
+    following: &Following<'_, D, A, R, T>,
+    stream: &FollowedStream,
+    replayer: &mut SettledReplayer<E>,
+    sent: &mut SentFrames,
+    writer: &mut W,
+) -> Option<FollowEnd>
+    requires { replayer.old.held.pass.table ≡ A.table }
+    ensures pass { (replayer.new.held.pass.table ≡ replayer.old.held.pass.table) × (replayer.new.held.pass.number ≡ replayer.old.held.pass.number) }
+{
+    let Following {
+        rt, alloc, archive, ..
+    } = following;
+    if let Err(refusal) = replayer.send(*rt, *alloc, *archive, stream.most, sent) {
+        return Some(if tell(stream, replayer, Sign::Failed, writer) {
+            FollowEnd::Failed(refusal)
+        } else {
+            FollowEnd::Gone
+        });
+    }
+    if replayer.is_ahead() {
+        keep_up(following, replayer);
+    }
+    if sent.as_slice().is_empty() {
+        if !replayer.is_done() {
+            return None;
+        }
+        return Some(if tell(stream, replayer, Sign::Ended, writer) {
+            FollowEnd::Done
+        } else {
+            FollowEnd::Gone
+        });
+    }
+    if writer.write_all(sent.as_slice()).is_err() {
+        return Some(FollowEnd::Gone);
+    }
+    None
+}
+
+/// Moves the archive's replay on, and keeps its new number from all clients, unless a client has asked to close it.
+fn keep_up<D: Disk, A: Naming, E: Disk, R: Wait, T: Reporter>(
+    following: &Following<'_, D, A, R, T>,
+    replayer: &mut SettledReplayer<E>,
+)
+    requires { replayer.old.held.pass.table ≡ A.table }
+    ensures pass { (replayer.new.held.pass.table ≡ replayer.old.held.pass.table) × (replayer.new.held.pass.number ≡ replayer.old.held.pass.number) }
+    ensures reader { replayer.new.reader ≡ replayer.old.reader }
+{
+    let mut places = following.with.followers.lock(following.rt);
+    if !places.is_ended(following.place) {
+        replayer.keep_up(following.rt, following.alloc, following.archive);
+        places.set_replay(following.place, Some(replayer.number()));
+    }
+}
+
+/// Tells a follower something at the position that comes next. Whether it went out; a position without a term is told nothing.
+fn tell<E: Disk, W: Write>(
+    stream: &FollowedStream,
+    replayer: &SettledReplayer<E>,
+    sign: Sign,
+    writer: &mut W,
+) -> bool {
+    let position = replayer.next_position().unsigned_abs();
+    match sign_at(&stream.geometry, &stream.publication, position, sign) {
+        Some(bytes) => writer.write_all(&bytes).is_ok(),
+        None => true,
+    }
+}
