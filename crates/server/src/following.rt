@@ -92,7 +92,7 @@ fn follow<D: Disk, A: Naming, R: Wait + Clock, T: Reporter, O: Openings>(
 }
 
 /// Sends a connection the frames of a replay, and then ends it: the pass.
-fn send<D: Disk, A: Naming, E: Disk, R: Wait + Clock, T: Reporter>(
+fn send<D: Disk, A: Naming, E: Disk + Drop, R: Wait + Clock, T: Reporter>(
     following: &Following<'_, D, A, R, T>,
     followed: Followed<E>,
     stream: TcpStream,
@@ -122,7 +122,7 @@ fn send<D: Disk, A: Naming, E: Disk, R: Wait + Clock, T: Reporter>(
 }
 
 /// Reports that no frame can be sent any more, if that is so.
-fn report<D: Disk, A: Naming, E: Disk, R, T: Reporter>(
+fn report<D: Disk, A: Naming, E: Disk + Drop, R, T: Reporter>(
     following: &Following<'_, D, A, R, T>,
     replayer: &SettledReplayer<E>,
     end: FollowEnd,
@@ -138,7 +138,7 @@ fn report<D: Disk, A: Naming, E: Disk, R, T: Reporter>(
 }
 
 /// Closes the archive's replay, unless a client has asked for that and waits, and leaves the place: the pass.
-fn finish<D: Disk, A: Naming, E: Disk, R: Wait, T: Reporter>(
+fn finish<D: Disk, A: Naming, E: Disk + Drop, R: Wait, T: Reporter>(
     following: &Following<'_, D, A, R, T>,
     replayer: SettledReplayer<E>,
 ) -> Pass<Made>
@@ -151,7 +151,7 @@ fn finish<D: Disk, A: Naming, E: Disk, R: Wait, T: Reporter>(
 }
 
 /// Closes the archive's replay, or leaves it to the client that has asked for that. Its number is any client's from then on.
-fn freed<D: Disk, A: Naming, E: Disk, R: Wait, T: Reporter>(
+fn freed<D: Disk, A: Naming, E: Disk + Drop, R: Wait, T: Reporter>(
     following: &Following<'_, D, A, R, T>,
     replayer: SettledReplayer<E>,
 ) -> Pass<Made>

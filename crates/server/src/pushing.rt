@@ -58,7 +58,7 @@ impl FollowedStream {
 
 /// Sends the frames of a replay as they are settled, and a heartbeat each 100 milliseconds while nothing comes, until there is no
 /// more.
-pub(crate) fn send_all<D: Disk, A: Naming, E: Disk, R: Wait + Clock, T: Reporter, W: Write>(
+pub(crate) fn send_all<D: Disk, A: Naming, E: Disk + Drop, R: Wait + Clock, T: Reporter, W: Write>(
     following: &Following<'_, D, A, R, T>,
     stream: &FollowedStream,
     connection: &FollowerConnection<'_, R, T>,
@@ -103,7 +103,7 @@ fn is_quiet<R: Clock>(rt: &R, since: Option<Instant>) -> bool {
 }
 
 /// Sends the next frames of a replay, if there are any; how it ended, if there are none any more.
-fn send_next<D: Disk, A: Naming, E: Disk, R: Wait, T: Reporter, W: Write>(
+fn send_next<D: Disk, A: Naming, E: Disk + Drop, R: Wait, T: Reporter, W: Write>(
     following: &Following<'_, D, A, R, T>,
     stream: &FollowedStream,
     replayer: &mut SettledReplayer<E>,
@@ -143,7 +143,7 @@ fn send_next<D: Disk, A: Naming, E: Disk, R: Wait, T: Reporter, W: Write>(
 }
 
 /// Moves the archive's replay on, and keeps its new number from all clients, unless a client has asked to close it.
-fn keep_up<D: Disk, A: Naming, E: Disk, R: Wait, T: Reporter>(
+fn keep_up<D: Disk, A: Naming, E: Disk + Drop, R: Wait, T: Reporter>(
     following: &Following<'_, D, A, R, T>,
     replayer: &mut SettledReplayer<E>,
 )
@@ -159,7 +159,7 @@ fn keep_up<D: Disk, A: Naming, E: Disk, R: Wait, T: Reporter>(
 }
 
 /// Tells a follower something at the position that comes next. Whether it went out; a position without a term is told nothing.
-fn tell<E: Disk, W: Write>(
+fn tell<E: Disk + Drop, W: Write>(
     stream: &FollowedStream,
     replayer: &SettledReplayer<E>,
     sign: Sign,

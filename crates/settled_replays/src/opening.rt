@@ -92,7 +92,7 @@ impl FrameTaker for Passed {
     }
 }
 
-impl<E: Disk> SettledReplayer<E> {
+impl<E: Disk + Drop> SettledReplayer<E> {
     /// A reader of a replay that is open, from a position on, for a length, both in bytes of the stream; the replay was opened
     /// there or before, in the same recording. Whether a frame begins there is read beside the lock, from where the replay was
     /// opened on.
@@ -136,7 +136,7 @@ struct Begun<E> {
 }
 
 /// What a reader of a replay begins with, if a frame begins at the position.
-fn begun_at<E: Disk>(
+fn begun_at<E: Disk + Drop>(
     alloc: Global,
     held: &HeldReplay,
     disk: E,
@@ -170,7 +170,7 @@ fn begun_at<E: Disk>(
 }
 
 /// The disk, if a frame begins at a position, or the recording is recorded up to there.
-fn reached<E: Disk>(
+fn reached<E: Disk + Drop>(
     alloc: Global,
     held: &HeldReplay,
     disk: E,

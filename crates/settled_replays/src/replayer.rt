@@ -35,7 +35,7 @@ pub struct SettledReplayer<E: Disk> {
     pub ghost protected: { held.from ≤ℤ reader.cursor.replay.next },
 }
 
-impl<E: Disk> SettledReplayer<E> {
+impl<E: Disk + Drop> SettledReplayer<E> {
     /// A reader of a replay that is open, by a disk that is only read, from where a cursor is: in the same recording, and where
     /// the replay was opened or behind that. No page is kept yet. Does not allocate.
     pub fn new(held: HeldReplay, disk: E, pages: PageCache, cursor: Cursor) -> SettledReplayer<E>

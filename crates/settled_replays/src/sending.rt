@@ -16,7 +16,7 @@ use frame_core::Refusal;
 use std::alloc::Global;
 use std::sync::Wait;
 
-impl<E: Disk> SettledReplayer<E> {
+impl<E: Disk + Drop> SettledReplayer<E> {
     /// The bytes of the next frames of the replay, at most so many, as a follower is sent them, in place of those that were
     /// there: one `turn`.
     ///
