@@ -1,5 +1,5 @@
 -- What `serve` does over the archive of a folder, and how it ends: docs/SERVING.md.
-use Rattle.std.specs.Prelude.{◌≡◌, ◌⊎◌, ◌↔◌, ◌<◌, ◌≤◌, ◌%◌, ◌&&◌, ◌||◌, ◌==◌, ℕ, ℤ, pos, Bool, true, false, List, [], ◌∷◌, length, IfSome, IsTrue, IsSomeAnd, nat_le, Option, None, Some, is_some}
+use Rattle.std.specs.Prelude.{◌≡◌, ◌⊎◌, ◌↔◌, Bor, ◌<◌, ◌≤◌, ◌%◌, ◌&&◌, ◌||◌, ◌==◌, ℕ, ℤ, pos, Bool, true, false, List, [], ◌∷◌, length, IfSome, IsTrue, IsSomeAnd, nat_le, Option, None, Some, is_some}
 use Rattle.std.specs.Int.{is_power_of_two}
 use Rattle.std.specs.List.{list_all}
 use Rattle.std.specs.Net.Addr.{IsMulticastV4}
@@ -14,7 +14,7 @@ use Rattle.host_disk.specs.Events.{Given}
 use Rattle.host_disk.specs.Replay.{life_from}
 use Rattle.command_line.specs.declared.serving.ServeWords.{ServeWords}
 use Rattle.command_line.specs.declared.usage.UsageError.{UsageError}
-use Rattle.command_line.specs.declared.usage.UsageError.TheVariants.{Address, Multicast, Window, NeedsAeron, RecordNeedsAeron, Streams, NeedsRecord, SegmentLength, Checkpoints, NoCheckpointsNeedsAeron}
+use Rattle.command_line.specs.declared.usage.UsageError.TheVariants.{Window, NeedsAeron, RecordNeedsAeron, Streams, NeedsRecord, SegmentLength, Checkpoints, NoCheckpointsNeedsAeron}
 use Rattle.server.specs.declared.options.ServeOptions.{ServeOptions}
 use Rattle.server.specs.Serving.{IsServedAs, IsServedUpTo}
 use Rattle.folder_commands.specs.declared.why.Why.{Why}
@@ -29,11 +29,19 @@ use Rattle.folder_commands.specs.declared.status.Ending.TheVariants.{Done, Cut, 
 abbrev pub IsNoAddress : List ℕ → Type 0
 IsNoAddress text = (address : Ipv4Addr) → IsIpv4Text text address → IsMulticastV4 address
 
--- what is wrong with it
-abbrev pub IsAddressReason : List ℕ → Why → Type 0
-IsAddressReason text (Usage Address) = (address : Ipv4Addr) → IsIpv4Text text address → ⊥
-IsAddressReason text (Usage Multicast) = (address : Ipv4Addr) × IsIpv4Text text address × IsMulticastV4 address
-IsAddressReason text why = ⊥
+-- what is wrong with it: the first reason if it is none, the second if it is a multicast address
+abbrev pub IsAddressReason : UsageError → UsageError → List ℕ → Why → Type 0
+IsAddressReason none multicast text why =
+    ((why ≡ Usage none) × ((address : Ipv4Addr) → IsIpv4Text text address → ⊥))
+    ⊎ ((why ≡ Usage multicast) × ((address : Ipv4Addr) × IsIpv4Text text address × IsMulticastV4 address))
+
+-- what `--consumers` and `--consumers-on` (each given or not) say of a port of consumers is wrong: an address comes without a port, or
+-- it is no address of one machine, or there is no such port
+abbrev pub IsNoConsumersEnd : Option ℕ → Option (Bor (List ℕ)) → Type 0
+IsNoConsumersEnd None None = ⊥
+IsNoConsumersEnd None (Some address) = Unit {0}
+IsNoConsumersEnd (Some port) None = 65535 < port
+IsNoConsumersEnd (Some port) (Some address) = IsNoAddress address.now ⊎ (65535 < port)
 
 -- a receiver window that a server can have, in bytes: a multiple of 32, from 4,096 to 1,048,576
 abbrev pub IsReceiverWindow : ℕ → Type 0
@@ -136,9 +144,13 @@ module _ (words : ServeWords) where
     pub begins : options.begins_short ≡ options.makes_checkpoints
     pub named : HasName
 
+  -- what they say of a port of consumers is wrong
+  abbrev pub HasNoConsumersEnd : Type 0
+  HasNoConsumersEnd = IsNoConsumersEnd words.consumers words.consumers_on
+
   -- the words name no address, or no ports
   abbrev pub HasNoEnds : Type 0
-  HasNoEnds = IsNoAddress words.receive_on.now ⊎ (65535 < words.control) ⊎ (65535 < words.receive)
+  HasNoEnds = IsNoAddress words.receive_on.now ⊎ (65535 < words.control) ⊎ (65535 < words.receive) ⊎ HasNoConsumersEnd
 
   -- they are wrong: a usage error
   abbrev pub AreWrong : Type 0

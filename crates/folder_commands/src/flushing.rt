@@ -98,7 +98,7 @@ fn flush_file(rt: &HostRuntime, path: &str) -> io::Result<()> {
     File::open(rt, path)?.sync_data()
 }
 
-/// A flush that failed as `0-131072.rec: flush: Input/output error; none is made any more`.
+/// A flush that failed as `0-131072.rec: flush: Input/output error; no more files are flushed before they are settled`.
 #[derive(Clone, Copy, Drop)]
 struct FlushFault(FileId, io::Error);
 

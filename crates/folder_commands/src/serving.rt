@@ -1,6 +1,6 @@
 //! The command `serve`: its words, its ports, and the archive of its folder. docs/SERVING.md, "How to run it".
 
-ghost use Rattle.std.specs.Prelude.{◌≡◌, ◌&&◌, ◌≤◌, ◌<◌, ◌↔◌, None, Some, Ok, true, false, IfErr, IfOk, IsTrue, MatchResult};
+ghost use Rattle.std.specs.Prelude.{◌≡◌, ◌&&◌, ◌≤◌, ◌<◌, ◌↔◌, None, Some, Ok, true, false, IfErr, IfOk, IfSome, IsSomeAnd, IsTrue, MatchResult, option_map};
 ghost use Rattle.disk_core.specs.Life.{IsQuiet};
 ghost use Rattle.std.specs.IoError.{error_kind};
 ghost use Rattle.clap.specs.declared.error.ErrorKind.TheVariants.{ValueValidation};
@@ -12,7 +12,7 @@ ghost use Rattle.command_line.specs.declared.usage.UsageError.TheVariants.{Name}
 ghost use Rattle.frame_core.specs.declared.refusal.Refusal.TheVariants.{NotCatalogue};
 ghost use Rattle.folder_commands.specs.Folders.{ending_in};
 ghost use Rattle.folder_commands.specs.Left.{ends_with, leaves, left_life, sees};
-ghost use Rattle.folder_commands.specs.Serving.{AreOptions, AsksForCheckpoints, HasBadCheckpoints, HasBadName, HasBadOptions, HasBadSegments, HasBadStreams, HasBadWindow, HasNoEnds, HasSegments, HasWindow, IsAddressReason, HasCatalogue, HasName, IsNoAddress, IsReceiverWindow, IsSegmentLength, IsUnbound, LacksCatalogue, RecordsStreams, ServesFolder, ServesOver, checkpoints_reason, is_name_byte, is_recorder_name, segment_reason, streams_reason, window_reason};
+ghost use Rattle.folder_commands.specs.Serving.{AreOptions, AsksForCheckpoints, HasBadCheckpoints, HasBadName, HasBadOptions, HasBadSegments, HasBadStreams, HasBadWindow, HasNoConsumersEnd, HasNoEnds, HasSegments, HasWindow, IsAddressReason, HasCatalogue, HasName, IsNoAddress, IsReceiverWindow, IsSegmentLength, IsUnbound, LacksCatalogue, RecordsStreams, ServesFolder, ServesOver, checkpoints_reason, is_name_byte, is_recorder_name, segment_reason, streams_reason, window_reason};
 
 use crate::exit::Exit;
 use crate::flushing::FolderFlusher;
@@ -32,7 +32,9 @@ use flow_control::{INITIAL_WINDOW, LONGEST_WINDOW, SHORTEST_WINDOW};
 use frame_core::Refusal;
 use frame_core::limits::{FRAME_ALIGNMENT, MAX_TERM_LENGTH, MIN_TERM_LENGTH};
 use host_disk::HostDisk;
-use server::{Flusher, Openings, Reporter, SEGMENT_LENGTH, ServeOptions, Served, serve_flushing};
+use server::{
+    Ends, Flusher, Openings, Reporter, SEGMENT_LENGTH, ServeOptions, Served, serve_flushing,
+};
 use std::alloc::Global;
 use std::io::{self, Eprint};
 use std::marker::Brand;
@@ -48,19 +50,21 @@ const LONGEST_NAME: usize = 64;
 /// Streams that `--record` may name at most.
 const MOST_STREAMS: usize = 64;
 
-/// Where control lines and datagrams come to.
+/// Where control lines, datagrams and lines of consumers come to.
 #[derive(Clone, Copy, Drop)]
 struct Addresses {
     address: Ipv4Addr,
     control: u16,
     receive: u16,
+    /// None: no consumers are served.
+    consumers: Option<ConsumersEnd>,
 }
 
-/// The listener of control lines, and the socket of datagrams.
-#[derive(Drop)]
-struct Ports {
-    listener: TcpListener,
-    socket: UdpSocket,
+/// Where lines of consumers come to.
+#[derive(Clone, Copy, Drop)]
+struct ConsumersEnd {
+    address: Ipv4Addr,
+    port: u16,
 }
 
 /// Serves the archive of a folder as the words ask for, until a line quits, and reports on standard error what happens. If the
@@ -78,8 +82,8 @@ pub(crate) fn serve<
     let addresses = addresses_of(words)?;
     let folder = Path::new(words.folder);
     let disk = disk_within(rt, folder, words.wait)?;
-    let ports = match bound(net, &addresses) {
-        Ok(ports) => ports,
+    let ends = match bound(net, &addresses) {
+        Ok(ends) => ends,
         Err(exit) => return Err(unserved(exit, disk)),
     };
     let looked = warns_of_hidden_by(rt, folder, &log_of(net, words));
@@ -101,7 +105,7 @@ pub(crate) fn serve<
     let metrics = metrics_of(rt, words);
     let reporter = ServeReporter::new(log_of(net, words), words.is_quiet, metrics);
     let flusher = FolderFlusher::<R, Brand>::new(log_of(net, words), rt, folder);
-    let (disk, done) = serve_disk(net, rt.alloc(), ports, disk, &options, reporter, &flusher);
+    let (disk, done) = serve_disk(net, rt.alloc(), ends, disk, &options, reporter, &flusher);
     Outcome::leaving(done, closed(disk))
 }
 
@@ -333,50 +337,108 @@ pub(crate) fn misworded(error: UsageError) -> Exit
     }
 }
 
-/// The address that a word names. Refused if it names none, or a multicast address: no one machine has that.
-fn address_of(word: &str) -> Result<Ipv4Addr, Exit>
+/// The address that a word names. Refused if it names none, or a multicast address, which no one machine has: for these reasons.
+fn address_of(word: &str, none: UsageError, multicast: UsageError) -> Result<Ipv4Addr, Exit>
     ensures address { MatchResult result
         (λ _. IsNoAddress word.now → ⊥)
         (λ exit. IsNoAddress word.now × (exit.ending ≡ NoCommand ValueValidation)) }
-    ensures why { IfErr result (λ exit. IsAddressReason word.now exit.why) }
+    ensures why { IfErr result (λ exit. IsAddressReason none multicast word.now exit.why) }
 {
     let Ok(address) = word.parse::<Ipv4Addr>() else {
-        return Err(misworded(UsageError::Address));
+        return Err(misworded(none));
     };
     if address.is_multicast() {
-        return Err(misworded(UsageError::Multicast));
+        return Err(misworded(multicast));
     }
     Ok(address)
 }
 
-/// The address and the ports that the words name. Refused if they name none.
+/// Where lines of consumers come to: the port of `--consumers`, at the address of `--consumers-on`, or at 127.0.0.1. None without
+/// a port. Refused if there is an address and no port, and if the words name no address or no port.
+fn consumers_end(words: &ServeWords<'_>) -> Result<Option<ConsumersEnd>, Exit>
+    ensures end { MatchResult result
+        (λ _. HasNoConsumersEnd words.now → ⊥)
+        (λ exit. HasNoConsumersEnd words.now × (exit.ending ≡ NoCommand ValueValidation)) }
+    ensures port { IfOk result (λ end. option_map (λ e. e.port) end ≡ words.now.consumers) }
+{
+    let Some(port) = words.consumers else {
+        if words.consumers_on.is_some() {
+            return Err(misworded(UsageError::NeedsConsumers));
+        }
+        return Ok(None);
+    };
+    Ok(Some(ConsumersEnd {
+        address: consumers_address(words)?,
+        port: port_of(port)?,
+    }))
+}
+
+/// The address that lines of consumers come to.
+fn consumers_address(words: &ServeWords<'_>) -> Result<Ipv4Addr, Exit>
+    ensures { MatchResult result
+        (λ _. IfSome words.now.consumers_on (λ word. IsNoAddress word.now → ⊥))
+        (λ exit. IsSomeAnd words.now.consumers_on (λ word. IsNoAddress word.now)
+        × (exit.ending ≡ NoCommand ValueValidation)) }
+{
+    match words.consumers_on {
+        None => Ok(Ipv4Addr::LOCALHOST),
+        Some(word) => address_of(
+            word,
+            UsageError::ConsumersAddress,
+            UsageError::ConsumersMulticast,
+        ),
+    }
+}
+
+/// The addresses and the ports that the words name. Refused if they name none.
 fn addresses_of(words: &ServeWords<'_>) -> Result<Addresses, Exit>
     ensures { MatchResult result
         (λ _. HasNoEnds words.now → ⊥)
         (λ exit. HasNoEnds words.now × (exit.ending ≡ NoCommand ValueValidation)) }
 {
-    let address = address_of(words.receive_on)?;
+    let address = address_of(words.receive_on, UsageError::Address, UsageError::Multicast)?;
     Ok(Addresses {
         address,
         control: port_of(words.control)?,
         receive: port_of(words.receive)?,
+        consumers: consumers_end(words)?,
     })
 }
 
-/// Binds the ports: control lines to 127.0.0.1 alone, datagrams to an address. Refused if the system refuses one.
+/// Binds the ports: control lines to 127.0.0.1 alone, datagrams and lines of consumers each to an address. Refused if the system
+/// refuses one.
 fn bound<R: Net<Listener = TcpListener, Stream = TcpStream>>(
     net: &R,
     addresses: &Addresses,
-) -> Result<Ports, Exit>
+) -> Result<Ends, Exit>
     ensures { IfErr result (λ exit. IsUnbound exit.ending) }
 {
-    let listener = match TcpListener::bind(net, (Ipv4Addr::LOCALHOST, addresses.control)) {
-        Ok(listener) => listener,
-        Err(error) => return Err(unbound(addresses.control, error)),
+    let control = listener_at(net, Ipv4Addr::LOCALHOST, addresses.control)?;
+    let consumers = match addresses.consumers {
+        Some(end) => Some(listener_at(net, end.address, end.port)?),
+        None => None,
     };
     match UdpSocket::bind(net, (addresses.address, addresses.receive)) {
-        Ok(socket) => Ok(Ports { listener, socket }),
+        Ok(datagrams) => Ok(Ends {
+            control,
+            consumers,
+            datagrams,
+        }),
         Err(error) => Err(unbound(addresses.receive, error)),
+    }
+}
+
+/// Binds a port for connections to an address. Refused if the system refuses it.
+fn listener_at<R: Net<Listener = TcpListener, Stream = TcpStream>>(
+    net: &R,
+    address: Ipv4Addr,
+    port: u16,
+) -> Result<TcpListener, Exit>
+    ensures { IfErr result (λ exit. IsUnbound exit.ending) }
+{
+    match TcpListener::bind(net, (address, port)) {
+        Ok(listener) => Ok(listener),
+        Err(error) => Err(unbound(port, error)),
     }
 }
 
@@ -421,7 +483,7 @@ fn serve_disk<
 >(
     net: &R,
     alloc: Global,
-    ports: Ports,
+    ends: Ends,
     disk: D,
     options: &ServeOptions<'_>,
     reporter: T,
@@ -429,10 +491,7 @@ fn serve_disk<
 ) -> (D, Result<(), Exit>)
     ensures { ServesOver options.now.is_strict (D.life disk) (D.life result.0) (ending_in result.1) }
 {
-    let Ports { listener, socket } = ports;
-    let served = serve_flushing(
-        net, alloc, listener, socket, disk, options, reporter, flusher,
-    );
+    let served = serve_flushing(net, alloc, ends, disk, options, reporter, flusher);
     match served {
         Ok(Served { disk, stop }) => match stop {
             None => (disk, Ok(())),

@@ -5,6 +5,7 @@ use Rattle.std.specs.List.{flat_map}
 use Rattle.metrics_text.specs.declared.measures.ArchiveMeasures.{ArchiveMeasures}
 use Rattle.metrics_text.specs.declared.measures.RecorderMeasures.{RecorderMeasures}
 use Rattle.metrics_text.specs.declared.measures.DatagramMeasures.{DatagramMeasures}
+use Rattle.metrics_text.specs.declared.measures.ResumeMeasures.{ResumeMeasures}
 use Rattle.metrics_text.specs.declared.measures.ClientMeasures.{ClientMeasures}
 use Rattle.metrics_text.specs.declared.measures.RecordingMeasures.{RecordingMeasures}
 use Rattle.metrics_text.specs.declared.measures.ImageMeasures.{ImageMeasures}
@@ -112,6 +113,19 @@ sent_families d =
     ∷ counter (codes "aeron_recorder_images_joined_total") (codes "Images that joined.") d.images
     ∷ []
 
+abbrev pub hole_families : ResumeMeasures → List Family
+hole_families r =
+    counter (codes "aeron_recorder_holes_total") (codes "Holes between recordings of one publication.") r.holes
+    ∷ counter (codes "aeron_recorder_hole_bytes_total") (codes "Bytes of such holes.") r.hole_bytes
+    ∷ []
+
+abbrev pub resume_families : ResumeMeasures → List Family
+resume_families r =
+    counter (codes "aeron_recorder_resumed_total") (codes "Images that began before their setup frames, where a recording stands.") r.resumed
+    ∷ counter (codes "aeron_recorder_resumed_bytes_total") (codes "Bytes that were missing before setup frames, and came.") r.resumed_bytes
+    ∷ gauge (codes "aeron_recorder_resuming") (codes "Images that wait for such bytes.") (decimal r.resuming)
+    ∷ []
+
 abbrev pub client_families : ClientMeasures → List Family
 client_families c =
     counter (codes "aeron_recorder_connections_total") (codes "Connections that were taken.") c.connections
@@ -163,5 +177,7 @@ metrics_text m =
     ++ (flat_map family_text (recorder_families m.recorder)
     ++ (flat_map family_text (received_families m.datagrams)
     ++ (flat_map family_text (sent_families m.datagrams)
+    ++ (flat_map family_text (hole_families m.resumes)
+    ++ (flat_map family_text (resume_families m.resumes)
     ++ (flat_map family_text (client_families m.clients)
-    ++ position_text m.recordings.items m.images.items)))))
+    ++ position_text m.recordings.items m.images.items)))))))

@@ -53,6 +53,21 @@ pub struct DatagramMeasures {
     pub images: u64,
 }
 
+/// What is measured of publications that came back.
+#[derive(Clone, Copy, Debug, PartialEq, Eq)]
+pub struct ResumeMeasures {
+    /// Holes between recordings of one publication that were seen.
+    pub holes: u64,
+    /// Bytes of them.
+    pub hole_bytes: u64,
+    /// Images that began where a recording stands, before their publications' setup frames.
+    pub resumed: u64,
+    /// Bytes that were missing before setup frames, and came.
+    pub resumed_bytes: u64,
+    /// Images that wait for such bytes now.
+    pub resuming: u64,
+}
+
 /// What is measured of clients.
 #[derive(Clone, Copy, Debug, PartialEq, Eq)]
 pub struct ClientMeasures {
@@ -100,6 +115,7 @@ pub struct Measures {
     pub archive: ArchiveMeasures,
     pub recorder: RecorderMeasures,
     pub datagrams: DatagramMeasures,
+    pub resumes: ResumeMeasures,
     pub clients: ClientMeasures,
     /// Of each active recording that has a seat.
     pub recordings: Vec<RecordingMeasures>,

@@ -1,6 +1,6 @@
 -- What a sender sends has room in a bounded image.
 use Rattle.std.proofs.Common.{◌≡◌, ◌∙◌, inl, inr, sym, ap, refl, subst, ◌+◌, ◌≤◌, ℕ, ℤ, pos, negsuc, List, [], ◌∷◌, ◌++◌, length, append_assoc, Bool, true, false, Option, Some, None, arith}
-use Rattle.std.specs.Prelude.{◌&&◌, max, min, nat_le, unsigned_abs, if◌then◌else◌}
+use Rattle.std.specs.Prelude.{unsigned_abs, if◌then◌else◌}
 use Rattle.std.specs.List.{AllByRecursion}
 use Rattle.std.proofs.lemmas.Bool.{cond_both}
 use Rattle.std.proofs.lemmas.Bool.Decides.{nat_tests}
@@ -17,7 +17,7 @@ use Rattle.image_core.specs.declared.fate.Fate.TheVariants.{Drops, Joins, Tells}
 use Rattle.image_core.specs.declared.inserted.Inserted.{Inserted}
 use Rattle.image_core.specs.Insert.{TakesIn}
 use Rattle.image_core.specs.Received.{IsChain, Received, StandsFor, after_frame, begun, fate, rebuilt, received, received_all, window}
-use Rattle.image_core.specs.Stock.{Offers, are_near, stock_end}
+use Rattle.image_core.specs.Stock.{are_near}
 use Rattle.image_core.specs.Take.{GivesBlock}
 use Rattle.image_core.proofs.ChainLemmas.{chain_low, chain_over, chain_up}
 use Rattle.publication_core.specs.declared.datagram.Datagram.{Datagram}
@@ -26,13 +26,13 @@ use Rattle.publication_core.specs.Copies.{AreFirst, AreRecorded, BeginsWith, Has
 use Rattle.publication_core.specs.Flows.{after_datagram, may_go}
 use Rattle.publication_core.specs.Meeting.{Called, Came, HasGone, IsTrueOf, MayCome, Meet, Turn, came, first_asked_of, first_waiting_of, goes_out}
 use Rattle.publication_core.specs.Order.{AreRunsOf, laid_by}
-use Rattle.publication_core.specs.Runs.{AreMadeOf, AreShort, Call, IsMadeOf, IsWithinReach, LaysOfStream, sending_after, after_first, Lay, Hear, Ask, Send, Repeat, NoteSetup, NoteHeartbeat, End}
+use Rattle.publication_core.specs.Runs.{AreMadeOf, AreShort, Call, IsWithinReach, LaysOfStream, sending_after, after_first, Lay, Hear, Ask, Send, Repeat, NoteSetup, NoteHeartbeat, End}
 use Rattle.publication_core.specs.Sending.{Sending, after_repeat_request, is_nak_of, new_sending}
 use Rattle.publication_core.proofs.EachLemmas.{IsUnmarked, each_end, each_marked, each_repeat, each_unconsumed}
 use Rattle.publication_core.proofs.HoldLemmas.{image_received_all}
-use Rattle.publication_core.proofs.MeetingLemmas.{IsCalled, IsMeeting, called, comes_in_reach, comes_recorded, made_gone, meeting_called, meeting_copies, starts}
+use Rattle.publication_core.proofs.MeetingLemmas.{IsMeeting, called, comes_in_reach, comes_recorded, made_gone, meeting_called, meeting_copies, starts}
 use Rattle.publication_core.proofs.OrderedLemmas.{IsOrdered, ordered_call, ordered_new}
-use Rattle.publication_core.proofs.ShortLemmas.{HasRoomFor, IsShort, room_of, short_call}
+use Rattle.publication_core.proofs.ShortLemmas.{IsShort, room_of, short_call}
 use Rattle.publication_core.proofs.StockLemmas.{KeptBelow, kept_both, kept_further, kept_gone, made_kept, near_lone, near_read}
 
 -- ---- what goes out

@@ -1,5 +1,5 @@
 -- A setup frame begins an image at the sender position.
-use Rattle.std.proofs.Common.{◌≡◌, ◌∙◌, sym, ap, refl, ◌+◌, ◌-◌, ◌*◌, ◌/◌, ◌^◌, ◌≤◌, ◌≤ℤ◌, ◌+ℤ◌, ◌*ℤ◌, ℕ, ℤ, pos, negsuc, List, [], ◌∷◌, true, arith}
+use Rattle.std.proofs.Common.{◌≡◌, ◌∙◌, sym, ap, refl, ◌+◌, ◌-◌, ◌*◌, ◌/◌, ◌^◌, ◌≤ℤ◌, ◌+ℤ◌, ◌*ℤ◌, ℕ, ℤ, pos, negsuc, List, [], ◌∷◌, true, arith}
 use Rattle.std.specs.Prelude.{unsigned_abs}
 use Rattle.std.proofs.lemmas.Int.{ints}
 use Rattle.std.proofs.lemmas.Nat.{pow-add}
@@ -9,7 +9,6 @@ use Rattle.frame_core.specs.declared.geometry.Geometry.{Geometry}
 use Rattle.frame_core.specs.declared.setup.Setup.{Setup}
 use Rattle.frame_core.specs.FrameEncoding.{IsAligned}
 use Rattle.frame_core.specs.Limits.{is_mtu, is_term_length}
-use Rattle.frame_core.specs.Position.{HasPosition}
 use Rattle.frame_core.specs.Setup.{geometry_of}
 use Rattle.frame_core.proofs.LimitsLemmas.{is_power}
 use Rattle.image_core.specs.Rebuild.{end_of}

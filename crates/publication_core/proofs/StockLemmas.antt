@@ -1,8 +1,7 @@
 -- What the frames of a datagram take of a stock.
-use Rattle.std.proofs.Common.{◌≡◌, ◌∙◌, inl, inr, sym, refl, subst, ◌+◌, ◌≤◌, ℕ, ℤ, pos, List, [], ◌∷◌, ◌++◌, length, length-append, Bool, true, false, Option, Some, arith}
-use Rattle.std.specs.Prelude.{map, nat_le, unsigned_abs, if◌then◌else◌}
+use Rattle.std.proofs.Common.{◌≡◌, inl, inr, refl, subst, ◌+◌, ◌≤◌, ℕ, ℤ, List, [], ◌∷◌, ◌++◌, length, length-append, Bool, true, false, Some, arith}
+use Rattle.std.specs.Prelude.{unsigned_abs}
 use Rattle.std.specs.List.{AllByRecursion, list_all}
-use Rattle.std.proofs.lemmas.Bool.{cond_both}
 use Rattle.std.proofs.lemmas.Bool.Decides.{nat_tests}
 use Rattle.std.proofs.lemmas.Int.{ints}
 use Rattle.frame_core.specs.declared.block.Publication.{Publication}
@@ -10,17 +9,15 @@ use Rattle.frame_core.specs.declared.frame.Frame.{Frame}
 use Rattle.frame_core.specs.declared.frame.FrameKind.{FrameKind}
 use Rattle.frame_core.specs.declared.frame.FrameKind.TheVariants.{Heartbeat, Message, Pad}
 use Rattle.frame_core.specs.declared.geometry.Geometry.{Geometry}
-use Rattle.frame_core.specs.declared.nak.Nak.{Nak}
 use Rattle.frame_core.specs.Datagram.{IsDatagram}
 use Rattle.frame_core.specs.FrameEncoding.{HasLength, aligned, aligned_length, stored}
-use Rattle.frame_core.specs.Position.{frame_position, position_of}
+use Rattle.frame_core.specs.Position.{frame_position}
 use Rattle.frame_core.proofs.DatagramLemmas.{one_list}
 use Rattle.image_core.specs.Kept.{AreMembers}
 use Rattle.image_core.specs.Rebuild.{end_of}
 use Rattle.image_core.specs.Received.{IsChain, Received}
 use Rattle.image_core.specs.Stock.{are_near, is_near, is_near_of, stock_end}
 use Rattle.publication_core.specs.declared.datagram.Datagram.{Datagram}
-use Rattle.publication_core.specs.Bounded.{MayBeOffered}
 use Rattle.publication_core.specs.Copies.{AreAmong}
 use Rattle.publication_core.specs.Meeting.{HasGone}
 use Rattle.publication_core.specs.Runs.{AreMessages, IsMadeOf, IsPadIf, stored_all}

@@ -1,20 +1,19 @@
 -- Each datagram lies in one term.
-use Rattle.std.proofs.Common.{◌≡◌, ◌∙◌, sym, ap, refl, ◌+◌, ◌*◌, ◌/◌, ◌≤◌, ◌<◌, ◌≤ℤ◌, ◌<ℤ◌, ◌+ℤ◌, ◌*ℤ◌, ℕ, ℤ, pos, negsuc, List, [], ◌∷◌, Bool, true, false, Some, arith}
-use Rattle.std.specs.Prelude.{◌&&◌, nat_le, unsigned_abs, not, if◌then◌else◌}
+use Rattle.std.proofs.Common.{◌≡◌, ◌∙◌, ap, refl, ◌+◌, ◌*◌, ◌/◌, ◌≤◌, ◌<◌, ◌≤ℤ◌, ◌<ℤ◌, ◌+ℤ◌, ◌*ℤ◌, ℕ, ℤ, pos, negsuc, List, [], ◌∷◌, Bool, true, false, Some, arith}
+use Rattle.std.specs.Prelude.{nat_le, unsigned_abs, if◌then◌else◌}
 use Rattle.std.specs.List.{AllByRecursion}
 use Rattle.std.specs.Ordering.{int_eq}
-use Rattle.std.proofs.Math.Nat.{div-mul-le_self, mul-le-mul_right}
+use Rattle.std.proofs.Math.Nat.{mul-le-mul_right}
 use Rattle.std.proofs.lemmas.Bool.Decides.{nat_tests}
 use Rattle.std.proofs.lemmas.Int.{ints}
-use Rattle.std.proofs.lemmas.Nat.{div-mul-add, le-div}
+use Rattle.std.proofs.lemmas.Nat.{div-mul-add}
 use Rattle.frame_core.specs.declared.block.Publication.{Publication}
 use Rattle.frame_core.specs.declared.frame.Frame.{Frame}
 use Rattle.frame_core.specs.declared.geometry.Geometry.{Geometry}
 use Rattle.frame_core.specs.FrameEncoding.{aligned_length}
-use Rattle.frame_core.specs.Position.{HasPosition, position_of, terms_since}
+use Rattle.frame_core.specs.Position.{position_of, terms_since}
 use Rattle.frame_core.proofs.PositionLemmas.{given}
 use Rattle.image_core.specs.Kept.{AreMembers}
-use Rattle.image_core.specs.Rebuild.{term_end}
 use Rattle.image_core.specs.Received.{is_inside, joining_position}
 use Rattle.publication_core.specs.declared.datagram.Datagram.{Datagram}
 use Rattle.publication_core.specs.Copies.{IsAmong, IsRecordedStream}

@@ -1,6 +1,6 @@
 -- One pass for all recorder sessions of a thread, with a writer for each: docs/ARCHITECTURE.md, "Followers". What a writer raised
 -- was settled by calls of the pass.
-use Rattle.std.specs.Prelude.{◌≡◌, ◌⊎◌, ℕ, ℤ, negsuc, List, [], ◌∷◌, map, Contains, Option, Some, None, slice_get, slice_set, Result, Ok, Err}
+use Rattle.std.specs.Prelude.{◌≡◌, ◌⊎◌, ℕ, ℤ, negsuc, List, [], ◌∷◌, Contains, Option, Some, None, slice_get, slice_set, Result, Ok, Err}
 use Rattle.atomic_table.specs.Seated.{TableId}
 use Rattle.frame_core.specs.declared.refusal.Refusal.{Refusal}
 use Rattle.archive_model.specs.declared.reply.Reply.{Reply}
@@ -64,7 +64,8 @@ session_at seats n = session_of (slice_get seats n)
 
 -- of the seats at these indices, in their order
 abbrev pub sessions_at : List ℕ → List BenchSeat → List ℤ
-sessions_at ns seats = map (session_at seats) ns
+sessions_at [] seats = []
+sessions_at (n ∷ ns) seats = session_at seats n ∷ sessions_at ns seats
 
 -- the seat at an index is changed so, if there is one
 abbrev pub changed_by : Option BenchSeat → ℕ → (BenchSeat → BenchSeat) → List BenchSeat → List BenchSeat

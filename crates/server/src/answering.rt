@@ -29,6 +29,8 @@ pub(crate) struct NotedArchive<'a, D: Disk, A: Naming, R, T> {
     pub rt: &'a R,
     pub archive: &'a SharedArchive<D, A>,
     pub with: &'a Connections<T>,
+    /// Whether positions that are asked for wait for a settling, and ask for the next one.
+    pub settles: bool,
 }
 
 impl<'a, D: Disk, A: Naming, R: Wait, T: Reporter> NotedArchive<'a, D, A, R, T> {
@@ -126,7 +128,7 @@ impl<'a, D: Disk, A: Naming, R: Wait, T: Reporter> NotedArchive<'a, D, A, R, T> 
         if let Some(recording) = settled_before(event) {
             self.with.shared.settle_writer(self.rt, recording);
         }
-        if let Some(recording) = awaited_before(event) {
+        if let (true, Some(recording)) = (self.settles, awaited_before(event)) {
             self.with.shared.await_writer(self.rt, recording);
         }
     }
@@ -138,7 +140,7 @@ impl<'a, D: Disk, A: Naming, R: Wait, T: Reporter> NotedArchive<'a, D, A, R, T> 
         if self.with.shared.note(self.rt, event, outcome) {
             self.with.shared.look_round(&self.with.socket);
         }
-        if let Some(recording) = settled_after(event, outcome) {
+        if let (true, Some(recording)) = (self.settles, settled_after(event, outcome)) {
             self.with.shared.ask_writer(self.rt, recording);
         }
     }

@@ -6,7 +6,8 @@ ghost use Rattle.call_history.specs.Passes.{AllOfTable};
 ghost use Rattle.server.specs.Clients.{AreBack, IsBack};
 
 use crate::answering::{Controller, NotedArchive};
-use crate::connections::{Connections, serve_connections};
+use crate::connections::{Connections, Port, serve_connections};
+use crate::consumer::Consumer;
 use crate::following::{Following, follow_by};
 use crate::openings::Openings;
 use crate::place::{Place, Places};
@@ -58,7 +59,7 @@ pub(crate) fn serve_clients<
         return passes;
     };
     if passes.is_empty() {
-        passes.push_reserved(serve_by(rt, with, archive, pass));
+        passes.push_reserved(serve_by(rt, with, &with.control, archive, pass));
         return passes;
     }
     serve_beside(rt, with, openings, archive, passes, pass)
@@ -136,7 +137,7 @@ fn serve_place<D: Disk + Drop, A: Naming, R: Wait + Clock, T: Reporter, O: Openi
     ensures { IsBack pass result }
 {
     match index.checked_sub(with.places.count) {
-        None => serve_by(rt, with, archive, pass),
+        None => serve_by(rt, with, with.port_of(index), archive, pass),
         Some(place) => {
             let following = Following {
                 rt,
@@ -153,28 +154,30 @@ fn serve_place<D: Disk + Drop, A: Naming, R: Wait + Clock, T: Reporter, O: Openi
 /// The thread of an index could not be made: the server ends by `Memory` if it is a client's; a follower's place is lost.
 fn lose<R: Wait, T: Reporter>(rt: &R, with: &Connections<T>, index: usize) {
     match index.checked_sub(with.places.count) {
-        None => with.listener.close(rt, Err(EarlyEnd::Memory)),
+        None => with.ending.close(rt, Err(EarlyEnd::Memory)),
         Some(place) => with.followers.lose(rt, place),
     }
 }
 
-/// Serves clients by a pass until the server ends: the pass.
+/// Serves clients of a port by a pass until the server ends: the pass.
 fn serve_by<D: Disk + Drop, A: Naming, R: Wait + Clock, T: Reporter>(
     rt: &R,
     with: &Connections<T>,
+    port: &Port,
     archive: &SharedArchive<D, A>,
     pass: Pass<Made>,
 ) -> Pass<Made>
     requires { pass.table ≡ A.table }
     ensures { IsBack pass result }
 {
-    serve_at::<D, A, Brand, R, T>(rt, with, archive, pass)
+    serve_at::<D, A, Brand, R, T>(rt, with, port, archive, pass)
 }
 
-/// Serves clients by the pass of a place.
+/// Serves clients of a port by the pass of a place.
 fn serve_at<'x, D: Disk + Drop, A: Naming, P: Place, R: Wait + Clock, T: Reporter>(
     rt: &'x R,
     with: &'x Connections<T>,
+    port: &'x Port,
     archive: &'x SharedArchive<D, A>,
     pass: Pass<Made>,
 ) -> Pass<Made>
@@ -183,14 +186,25 @@ fn serve_at<'x, D: Disk + Drop, A: Naming, P: Place, R: Wait + Clock, T: Reporte
     ensures table { result.table ≡ A.table }
     ensures number { result.number ≡ P.number }
 {
-    let noted = NotedArchive { rt, archive, with };
+    let options = &port.options;
+    let noted = NotedArchive {
+        rt,
+        archive,
+        with,
+        settles: !options.only_reads,
+    };
     let controller = Controller::<D, A, P, R, T>::new(
         with.alloc,
         noted,
         pass,
-        with.options.offers_checkpoints,
+        options.offers_checkpoints,
     );
-    serve_connections(rt, with, controller).into_pass()
+    if options.only_reads {
+        let consumer = serve_connections(rt, with, port, Consumer::new(controller));
+        consumer.into_server().into_pass()
+    } else {
+        serve_connections(rt, with, port, controller).into_pass()
+    }
 }
 
 /// Serves so many clients at a time until the server ends, without an archive. The server ends by `Memory` if a thread can't
@@ -201,15 +215,16 @@ pub(crate) fn serve_unopened<R: Threads + Wait + Clock + Sync, T: Reporter + Dro
     places: &Places,
 ) {
     let unopened = Unopened {
-        offers_checkpoints: with.options.offers_checkpoints,
+        offers_checkpoints: with.control.options.offers_checkpoints,
     };
     thread::scope(thread::scope_env(), rt, |scope| {
-        for _ in 1..places.count {
-            let serving = scope.spawn(move || serve_connections(rt, with, unopened));
+        for index in 1..places.count {
+            let port = with.port_of(index);
+            let serving = scope.spawn(move || serve_connections(rt, with, port, unopened));
             if serving.is_err() {
-                with.listener.close(rt, Err(EarlyEnd::Memory));
+                with.ending.close(rt, Err(EarlyEnd::Memory));
             }
         }
-        let _ = serve_connections(rt, with, unopened);
+        let _ = serve_connections(rt, with, &with.control, unopened);
     });
 }

@@ -1,16 +1,17 @@
 //! Connections, one after another, and their lines. docs/SERVING.md, "Control lines".
 
-ghost use Rattle.std.specs.Prelude.{◌≡◌, ◌<◌, ◌↔◌, Err, IfErr, IsSome, IsTrue, OnOk};
+ghost use Rattle.std.specs.Prelude.{◌≡◌, ◌<◌, ◌↔◌, ◌⊎◌, Err, IfErr, IsFalse, IsSome, IsTrue, OnOk, false, true};
 ghost use Rattle.std.specs.Io.KnownBytes.{Appends};
 ghost use Rattle.frame_core.specs.declared.refusal.Refusal.TheVariants.{BadLine};
 ghost use Rattle.tool_core.specs.Answering.{AnswersFirstLines, AnswersLines, EndsEarly, outcome_text};
 ghost use Rattle.tool_core.specs.Transcript.{WritesText};
 
 use crate::client::{Client, ClientReader, ClientWriter, is_timed};
+use crate::consumer_reader::ConsumerReader;
 use crate::first_bytes::FirstBytes;
 use crate::followers::{Claim, Followers};
 use crate::line_reader::LineReader;
-use crate::listener::SharedListener;
+use crate::listener::{Ending, SharedListener};
 use crate::options::ServeOptions;
 use crate::place::Places;
 use crate::script_reader::{LONGEST_FOLLOW, OwnLines, ScriptReader};
@@ -56,26 +57,60 @@ pub(crate) struct ClientOptions {
     pub is_single: bool,
     /// Whether the line `checkpoint` is answered.
     pub offers_checkpoints: bool,
+    /// Whether clients only read: no other line is answered, and `quit` ends their own connection alone.
+    pub only_reads: bool,
 }
 
 impl ClientOptions {
-    /// That of these options, for so many clients.
+    /// Those of the control port by these options, for so many clients and followers.
     pub fn of(options: &ServeOptions<'_>, places: &Places) -> ClientOptions
         ensures closes { IsTrue result.closes_replays ↔ IsSome options.now.clients }
-        ensures single { IsTrue result.is_single ↔ (places.now.count ≡ 1) }
+        ensures single { IsTrue result.is_single ↔ (places.now.clients ≡ 1) }
+        ensures images { IsTrue result.lists_images ↔ IsSome options.now.window }
+        ensures follows { IsTrue result.follows ↔ ((0 < places.now.followers)
+            × (IsTrue result.lists_images ⊎ IsFalse result.is_single)) }
+        ensures checkpoints { result.offers_checkpoints ≡ options.now.makes_checkpoints }
+        ensures reads { result.only_reads ≡ false }
+    {
+        let lists_images = options.window.is_some();
+        let is_single = places.clients == 1;
+        ClientOptions {
+            idle: Duration::from_secs(options.idle_seconds),
+            lists_images,
+            follows: places.followers > 0 && (lists_images || !is_single),
+            closes_replays: options.clients.is_some(),
+            is_single,
+            offers_checkpoints: options.makes_checkpoints,
+            only_reads: false,
+        }
+    }
+
+    /// Those of the port of consumers by these options, for so many followers.
+    pub fn of_consumers(options: &ServeOptions<'_>, places: &Places) -> ClientOptions
+        ensures closes { result.closes_replays ≡ true }
+        ensures single { result.is_single ≡ false }
         ensures images { IsTrue result.lists_images ↔ IsSome options.now.window }
         ensures follows { IsTrue result.follows ↔ (0 < places.now.followers) }
-        ensures checkpoints { result.offers_checkpoints ≡ options.now.makes_checkpoints }
+        ensures checkpoints { result.offers_checkpoints ≡ false }
+        ensures reads { result.only_reads ≡ true }
     {
         ClientOptions {
             idle: Duration::from_secs(options.idle_seconds),
             lists_images: options.window.is_some(),
             follows: places.followers > 0,
-            closes_replays: options.clients.is_some(),
-            is_single: places.count == 1,
-            offers_checkpoints: options.makes_checkpoints,
+            closes_replays: true,
+            is_single: false,
+            offers_checkpoints: false,
+            only_reads: true,
         }
     }
+}
+
+/// A port that lines come to, and how its clients are served.
+#[derive(Drop)]
+pub(crate) struct Port {
+    pub listener: SharedListener,
+    pub options: ClientOptions,
 }
 
 /// What the threads that serve connections share.
@@ -85,8 +120,11 @@ pub(crate) struct Connections<T> {
     pub shared: Shared<T>,
     /// Where datagrams come to.
     pub socket: UdpSocket,
-    pub listener: SharedListener,
-    pub options: ClientOptions,
+    pub ending: Ending,
+    /// Where control lines come to.
+    pub control: Port,
+    /// Where lines of clients come to that only read, if such clients are served.
+    pub consumers: Option<Port>,
     /// How many clients are served at a time, and how many followers.
     pub places: Places,
     /// Connections that are sent frames.
@@ -96,7 +134,15 @@ pub(crate) struct Connections<T> {
 impl<T: Reporter> Connections<T> {
     /// Whether serving has ended.
     pub fn has_ended(&self) -> bool {
-        self.listener.is_closed() || self.shared.has_stopped() || self.shared.has_ended()
+        self.ending.has_ended(&self.shared)
+    }
+
+    /// The port whose connections a client's thread of this index serves: those of the first ones serve the control port's.
+    pub fn port_of(&self, index: usize) -> &Port {
+        match &self.consumers {
+            Some(port) if index >= self.places.clients => port,
+            _ => &self.control,
+        }
     }
 }
 
@@ -136,34 +182,37 @@ impl Observer for QuitObserver {
     }
 }
 
-/// Serves connections, one after another, until the server ends. It ends if a line quits. If one client is served at a time,
-/// the lines of each go on from the merge that those before it left.
+/// Serves connections of a port, one after another, until the server ends. It ends if a line at the control port quits. If one
+/// client is served at a time, the lines of each go on from the merge that those before it left.
 pub(crate) fn serve_connections<R: Wait + Clock, T: Reporter, S: Server + Drop>(
     rt: &R,
     with: &Connections<T>,
+    port: &Port,
     server: S,
 ) -> S {
     let mut state = ScriptState::new(server);
     let mut waiting = None;
     for _ in rt.forever() {
-        let Some(stream) = with.listener.next(rt, &with.shared, waiting) else {
+        let taken = port.listener.next(rt, &with.shared, &with.ending, waiting);
+        let Some(stream) = taken else {
             return state.into_archive();
         };
-        let (after, next) = serve_stream(rt, with, stream, state);
+        let (after, next) = serve_stream(rt, with, port, stream, state);
         state = after;
         waiting = next;
         if waiting.is_none() {
-            with.listener.leave();
+            port.listener.leave();
         }
     }
     unreachable!()
 }
 
-/// Serves a connection that was taken, and ends serving if a line quits. The connection that its place goes to, if it was
-/// idle for too long and that one waits.
+/// Serves a connection that was taken, and ends serving if a line quits, but for one of a client that only reads. The connection
+/// that its place goes to, if it was idle for too long and that one waits.
 fn serve_stream<R: Wait + Clock, T: Reporter, S: Server + Drop>(
     rt: &R,
     with: &Connections<T>,
+    port: &Port,
     stream: TcpStream,
     state: ScriptState<S>,
 ) -> (ScriptState<S>, Option<TcpStream>) {
@@ -171,15 +220,15 @@ fn serve_stream<R: Wait + Clock, T: Reporter, S: Server + Drop>(
     if !is_timed(&stream) {
         return (state, None);
     }
-    let client = Client::new(rt, &with.shared, &with.listener, with.options.idle, stream);
-    let (mut state, end) = serve_client(rt, with, &client, state);
-    if let ConnectionEnd::Quits = end {
-        with.listener.close(rt, Ok(()));
+    let client = Client::new(rt, with, port, stream);
+    let (mut state, end) = serve_client(rt, with, port, &client, state);
+    if matches!(end, ConnectionEnd::Quits) && !port.options.only_reads {
+        with.ending.close(rt, Ok(()));
     }
     state
         .archive
-        .end_connection(with.alloc, with.options.closes_replays);
-    if !with.options.is_single {
+        .end_connection(with.alloc, port.options.closes_replays);
+    if !port.options.is_single {
         state.merge = None;
     }
     let next = client.take_next();
@@ -194,6 +243,7 @@ fn serve_stream<R: Wait + Clock, T: Reporter, S: Server + Drop>(
 fn serve_client<R: Wait + Clock, T: Reporter, S: Answerer>(
     rt: &R,
     with: &Connections<T>,
+    port: &Port,
     client: &Client<'_, R, T>,
     state: ScriptState<S>,
 ) -> (ScriptState<S>, ConnectionEnd) {
@@ -210,25 +260,38 @@ fn serve_client<R: Wait + Clock, T: Reporter, S: Answerer>(
         }
         Err(_) => return (state, ConnectionEnd::Ended),
     }
-    if with.options.lists_images || with.options.follows {
-        return serve_scripts(rt, with, client, reader, &mut writer, state);
+    if !port.options.only_reads {
+        return serve_reader(rt, with, &port.options, client, reader, &mut writer, state);
     }
-    let (state, _, has_quit) = answer_script(
-        with.alloc,
-        client,
-        &with.options,
-        reader,
-        &mut writer,
-        state,
-    );
+    match ConsumerReader::new(with.alloc, reader) {
+        Ok(reader) => serve_reader(rt, with, &port.options, client, reader, &mut writer, state),
+        Err(_) => (state, ConnectionEnd::Ended),
+    }
+}
+
+/// Answers the lines that a reader gives of a client, as `serve_client`.
+fn serve_reader<R: Wait + Clock, T: Reporter, I: Read + Drop, W: Write, S: Answerer>(
+    rt: &R,
+    with: &Connections<T>,
+    options: &ClientOptions,
+    client: &Client<'_, R, T>,
+    reader: I,
+    writer: &mut W,
+    state: ScriptState<S>,
+) -> (ScriptState<S>, ConnectionEnd) {
+    if options.lists_images || options.follows {
+        return serve_scripts(rt, with, options, client, reader, writer, state);
+    }
+    let (state, _, has_quit) = answer_script(with.alloc, client, options, reader, writer, state);
     (state, ConnectionEnd::of(has_quit))
 }
 
-/// Answers the lines of a client as `serve_client`, a line `images` between them by the images, and a line `follow` by a
+/// Answers the lines of a client as `serve_reader`, a line `images` between them by the images, and a line `follow` by a
 /// replay whose frames the client is sent.
 fn serve_scripts<R: Wait + Clock, T: Reporter, I: Read + Drop, W: Write, S: Answerer>(
     rt: &R,
     with: &Connections<T>,
+    options: &ClientOptions,
     client: &Client<'_, R, T>,
     reader: I,
     writer: &mut W,
@@ -236,16 +299,22 @@ fn serve_scripts<R: Wait + Clock, T: Reporter, I: Read + Drop, W: Write, S: Answ
 ) -> (ScriptState<S>, ConnectionEnd) {
     let alloc = with.alloc;
     let taken = OwnLines {
-        images: with.options.lists_images,
-        follow: with.options.follows,
+        images: options.lists_images,
+        follow: options.follows,
     };
     let Ok(mut reader) = ScriptReader::new(alloc, reader, taken) else {
         return (state, ConnectionEnd::Ended);
     };
     let mut state = state;
     for _ in 0..u64::MAX {
-        let (next, goes_on, has_quit) =
-            answer_script(alloc, client, &with.options, &mut reader, writer, state);
+        let (next, goes_on, has_quit) = answer_script(
+            alloc,
+            client,
+            options,
+            &mut reader,
+            writer,
+            state,
+        );
         state = next;
         if has_quit || !goes_on || !client.reads_on() {
             return (state, ConnectionEnd::of(has_quit));

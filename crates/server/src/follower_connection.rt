@@ -72,7 +72,7 @@ impl<'a, R: Wait + Clock, T: Reporter> FollowerConnection<'a, R, T> {
     /// Whether too few bytes were taken for too long. Where the clock can't be read they were not.
     fn is_slow(&self) -> bool {
         match (self.since.get(), Instant::now(self.rt)) {
-            (Some(since), Ok(now)) => now.duration_since(since) > self.with.options.idle,
+            (Some(since), Ok(now)) => now.duration_since(since) > self.with.control.options.idle,
             _ => false,
         }
     }

@@ -50,10 +50,7 @@ pub(crate) fn follow_by<D: Disk, A: Naming, R: Wait + Clock, T: Reporter, O: Ope
 {
     let mut pass = pass;
     for _ in following.rt.forever() {
-        let next = following
-            .with
-            .followers
-            .next(following.rt, following.place);
+        let next = following.with.followers.next(following.rt, following.place);
         let Some(fields) = next else {
             return pass;
         };
@@ -73,7 +70,10 @@ fn follow<D: Disk, A: Naming, R: Wait + Clock, T: Reporter, O: Openings>(
     ensures { IsBack pass result }
 {
     let Following {
-        rt, with, place, ..
+        rt,
+        with,
+        place,
+        ..
     } = following;
     match begun(following, openings, pass, fields) {
         Ok(followed) => {
@@ -146,7 +146,10 @@ fn finish<D: Disk, A: Naming, E: Disk + Drop, R: Wait, T: Reporter>(
     ensures { IsBack replayer.held.pass result }
 {
     let pass = freed(following, replayer);
-    following.with.followers.leave(following.rt, following.place);
+    following
+        .with
+        .followers
+        .leave(following.rt, following.place);
     pass
 }
 
@@ -217,7 +220,10 @@ fn begun_of<D: Disk, A: Naming, R: Wait, T: Reporter, O: Openings>(
     ensures back { IfErr result (λ un. IsBack pass un.pass) }
 {
     let Following {
-        rt, alloc, archive, ..
+        rt,
+        alloc,
+        archive,
+        ..
     } = following;
     let position = if fields.position == -1 {
         descriptor.start_position

@@ -5,6 +5,9 @@ mod answering;
 mod client;
 mod clients;
 mod connections;
+mod consumer;
+mod consumer_reader;
+mod ends;
 mod first_bytes;
 mod follower_connection;
 mod followers;
@@ -20,6 +23,7 @@ mod served;
 mod serving;
 mod unopened;
 
+pub use ends::Ends;
 pub use openings::Openings;
 pub use options::{IDLE_SECONDS, SEGMENT_LENGTH, SETTLE_EVERY, ServeOptions};
 pub use served::{Served, Stuck};

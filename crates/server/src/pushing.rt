@@ -1,6 +1,7 @@
 //! What a follower is sent: frames as they are settled, and heartbeats. docs/PROTOCOL.md, "Followers".
 
-ghost use Rattle.std.specs.Prelude.{◌≡◌};
+ghost use Rattle.std.specs.Prelude.{◌≡◌, IsTrue, MatchOption};
+ghost use Rattle.server.specs.Following.{IsSentOn, IsSentUntil, IsTold};
 
 use crate::follower_connection::FollowerConnection;
 use crate::following::Following;
@@ -43,8 +44,16 @@ pub(crate) struct FollowedStream {
 }
 
 impl FollowedStream {
+    ghost use Rattle.archive_model.specs.State.{geometry_of};
+
     /// That of a recording.
-    pub fn of(descriptor: &Descriptor) -> FollowedStream {
+    pub fn of(descriptor: &Descriptor) -> FollowedStream
+        ensures geometry { result.geometry ≡ geometry_of descriptor.now }
+        ensures publication { result.publication ≡ record {
+          session_id = descriptor.now.session_id;
+          stream_id = descriptor.now.stream_id;
+        } }
+    {
         FollowedStream {
             geometry: descriptor.geometry(),
             publication: Publication {
@@ -67,7 +76,10 @@ pub(crate) fn send_all<D: Disk, A: Naming, E: Disk + Drop, R: Wait + Clock, T: R
     writer: &mut W,
 ) -> FollowEnd
     requires { replayer.old.held.pass.table ≡ A.table }
-    ensures pass { (replayer.new.held.pass.table ≡ replayer.old.held.pass.table) × (replayer.new.held.pass.number ≡ replayer.old.held.pass.number) }
+    ensures sent { IsSentUntil result stream.now (E.life replayer.old.reader.disk) (E.life replayer.new.reader.disk)
+        replayer.old.reader.cursor replayer.new.reader.cursor (W.contents writer.old) (W.contents writer.new) }
+    ensures pass { (replayer.new.held.pass.table ≡ replayer.old.held.pass.table)
+        × (replayer.new.held.pass.number ≡ replayer.old.held.pass.number) }
 {
     let mut quiet = Instant::now(following.rt).ok();
     for _ in following.rt.forever() {
@@ -80,13 +92,17 @@ pub(crate) fn send_all<D: Disk, A: Naming, E: Disk + Drop, R: Wait + Clock, T: R
         }
         if sent.as_slice().is_empty() {
             connection.rest();
-            if is_quiet(following.rt, quiet) {
+            if is_due(following.rt, quiet) {
                 if !tell(stream, replayer, Sign::Alive, writer) {
                     return FollowEnd::Gone;
                 }
                 quiet = Instant::now(following.rt).ok();
             }
-            following.with.shared.settles.wait(following.rt, settled, LOOK);
+            following
+                .with
+                .shared
+                .settles
+                .wait(following.rt, settled, LOOK);
         } else {
             quiet = Instant::now(following.rt).ok();
         }
@@ -95,7 +111,7 @@ pub(crate) fn send_all<D: Disk, A: Naming, E: Disk + Drop, R: Wait + Clock, T: R
 }
 
 /// Whether nothing was sent for so long that a heartbeat is due. Where the clock can't be read one is.
-fn is_quiet<R: Clock>(rt: &R, since: Option<Instant>) -> bool {
+fn is_due<R: Clock>(rt: &R, since: Option<Instant>) -> bool {
     match (since, Instant::now(rt)) {
         (Some(since), Ok(now)) => now.duration_since(since) >= Duration::from_millis(LOOK),
         _ => true,
@@ -111,30 +127,27 @@ fn send_next<D: Disk, A: Naming, E: Disk + Drop, R: Wait, T: Reporter, W: Write>
     writer: &mut W,
 ) -> Option<FollowEnd>
     requires { replayer.old.held.pass.table ≡ A.table }
-    ensures pass { (replayer.new.held.pass.table ≡ replayer.old.held.pass.table) × (replayer.new.held.pass.number ≡ replayer.old.held.pass.number) }
+    ensures sent { MatchOption result
+        (IsSentOn stream.now (E.life replayer.old.reader.disk) (E.life replayer.new.reader.disk)
+        replayer.old.reader.cursor replayer.new.reader.cursor (W.contents writer.old) (W.contents writer.new))
+        (λ end. IsSentUntil end stream.now (E.life replayer.old.reader.disk) (E.life replayer.new.reader.disk)
+        replayer.old.reader.cursor replayer.new.reader.cursor (W.contents writer.old) (W.contents writer.new)) }
+    ensures pass { (replayer.new.held.pass.table ≡ replayer.old.held.pass.table)
+        × (replayer.new.held.pass.number ≡ replayer.old.held.pass.number) }
 {
-    let Following {
-        rt, alloc, archive, ..
-    } = following;
-    if let Err(refusal) = replayer.send(*rt, *alloc, *archive, stream.most, sent) {
-        return Some(if tell(stream, replayer, Sign::Failed, writer) {
-            FollowEnd::Failed(refusal)
-        } else {
-            FollowEnd::Gone
-        });
+    let turned = replayer.send(
+        following.rt,
+        following.alloc,
+        following.archive,
+        stream.most,
+        sent,
+    );
+    if let Err(refusal) = turned {
+        return Some(end_by(stream, replayer, FollowEnd::Failed(refusal), writer));
     }
-    if replayer.is_ahead() {
-        keep_up(following, replayer);
-    }
-    if sent.as_slice().is_empty() {
-        if !replayer.is_done() {
-            return None;
-        }
-        return Some(if tell(stream, replayer, Sign::Ended, writer) {
-            FollowEnd::Done
-        } else {
-            FollowEnd::Gone
-        });
+    keep_up(following, replayer);
+    if sent.as_slice().is_empty() && replayer.is_done() {
+        return Some(end_by(stream, replayer, FollowEnd::Done, writer));
     }
     if writer.write_all(sent.as_slice()).is_err() {
         return Some(FollowEnd::Gone);
@@ -142,19 +155,45 @@ fn send_next<D: Disk, A: Naming, E: Disk + Drop, R: Wait, T: Reporter, W: Write>
     None
 }
 
-/// Moves the archive's replay on, and keeps its new number from all clients, unless a client has asked to close it.
+/// Moves the archive's replay on, if the next frame is in a later segment, and keeps its new number from all clients; but not if
+/// a client has asked to close it.
 fn keep_up<D: Disk, A: Naming, E: Disk + Drop, R: Wait, T: Reporter>(
     following: &Following<'_, D, A, R, T>,
     replayer: &mut SettledReplayer<E>,
 )
     requires { replayer.old.held.pass.table ≡ A.table }
-    ensures pass { (replayer.new.held.pass.table ≡ replayer.old.held.pass.table) × (replayer.new.held.pass.number ≡ replayer.old.held.pass.number) }
     ensures reader { replayer.new.reader ≡ replayer.old.reader }
+    ensures pass { (replayer.new.held.pass.table ≡ replayer.old.held.pass.table)
+        × (replayer.new.held.pass.number ≡ replayer.old.held.pass.number) }
 {
+    if !replayer.is_ahead() {
+        return;
+    }
     let mut places = following.with.followers.lock(following.rt);
     if !places.is_ended(following.place) {
         replayer.keep_up(following.rt, following.alloc, following.archive);
         places.set_replay(following.place, Some(replayer.number()));
+    }
+}
+
+/// Tells a follower that its frames ended so. How they did, unless that did not go out.
+fn end_by<E: Disk + Drop, W: Write>(
+    stream: &FollowedStream,
+    replayer: &SettledReplayer<E>,
+    end: FollowEnd,
+    writer: &mut W,
+) -> FollowEnd
+    ensures { IsSentUntil result stream.now (E.life replayer.now.reader.disk) (E.life replayer.now.reader.disk)
+        replayer.now.reader.cursor replayer.now.reader.cursor (W.contents writer.old) (W.contents writer.new) }
+{
+    let sign = match end {
+        FollowEnd::Done => Sign::Ended,
+        _ => Sign::Failed,
+    };
+    if tell(stream, replayer, sign, writer) {
+        end
+    } else {
+        FollowEnd::Gone
     }
 }
 
@@ -164,7 +203,10 @@ fn tell<E: Disk + Drop, W: Write>(
     replayer: &SettledReplayer<E>,
     sign: Sign,
     writer: &mut W,
-) -> bool {
+) -> bool
+    ensures { IsTrue result → IsTold stream.now sign replayer.now.reader.cursor.replay.next
+        (W.contents writer.old) (W.contents writer.new) }
+{
     let position = replayer.next_position().unsigned_abs();
     match sign_at(&stream.geometry, &stream.publication, position, sign) {
         Some(bytes) => writer.write_all(&bytes).is_ok(),

@@ -133,12 +133,7 @@ impl<R: Read> ScriptReader<R> {
 impl<R: Read> Read for ScriptReader<R> {
     fn read(&mut self, buf: &mut [u8]) -> io::Result<usize> {
         for _ in 0..u64::MAX {
-            let count = script_length(
-                &self.own,
-                self.waiting(),
-                self.begins_line,
-                self.has_ended,
-            );
+            let count = script_length(&self.own, self.waiting(), self.begins_line, self.has_ended);
             if count > 0 {
                 return Ok(self.give(count, buf));
             }
@@ -211,7 +206,8 @@ fn may_grow(bytes: &[u8]) -> bool
 fn may_be_own(own: &OwnLines, bytes: &[u8], has_ended: bool) -> bool
     ensures { result ≡ may_be_own own.now has_ended bytes.now }
 {
-    (own.images && may_be_images(bytes, has_ended)) || (own.follow && may_be_follow(bytes, has_ended))
+    (own.images && may_be_images(bytes, has_ended))
+        || (own.follow && may_be_follow(bytes, has_ended))
 }
 
 /// How many bytes stand before a line that the server answers by itself, or before what may become one. Costs a step for each

@@ -9,12 +9,13 @@ ghost use Rattle.server_recorder.specs.Seats.{AreAllPasses, AreClientPasses};
 ghost use Rattle.server.specs.Serving.{EndsHistory, EndsOrLacks, EndsUpTo, IsServed, IsServedAs, IsServedUpTo};
 
 use crate::clients::{serve_clients, serve_unopened};
-use crate::connections::{ClientOptions, Connections};
+use crate::connections::{ClientOptions, Connections, Port};
+use crate::ends::Ends;
 use crate::followers::Followers;
-use crate::listener::SharedListener;
+use crate::listener::{Ending, SharedListener};
 use crate::openings::Openings;
 use crate::options::ServeOptions;
-use crate::place::Places;
+use crate::place::{CONSUMERS, Places};
 use crate::served::{Served, stuck_by, unopened_stop};
 use archive_lock::{Closed, Made, Naming, SharedArchive};
 use call_history::{Opened, Pass};
@@ -109,7 +110,12 @@ pub fn serve_on<R: Threads + Wait + Clock + Sync, D: Disk + Drop + Send>(
         IsServedUpTo (D.life disk) (D.life (disk_of fault)) (early_end_of fault)) }
 {
     let options = ServeOptions::new();
-    match serve_with(rt, alloc, listener, socket, disk, &options, Unreported) {
+    let ends = Ends {
+        control: listener,
+        consumers: None,
+        datagrams: socket,
+    };
+    match serve_with(rt, alloc, ends, disk, &options, Unreported) {
         Ok(served) => Ok(served.disk),
         Err(fault) => Err(fault),
     }
@@ -120,9 +126,10 @@ pub fn serve_on<R: Threads + Wait + Clock + Sync, D: Disk + Drop + Send>(
 /// the last of the calls left it, which are one legal history of the passes of the thread that records and of the clients that
 /// are served at a time.
 ///
-/// Three threads and one for each further client: the caller's answers the lines of connections, one after another, and so
-/// does each of those; one receives datagrams, and sends a NAK frame after each that its image doesn't refuse while something
-/// is missing; one writes and settles blocks of images that recorder sessions have. docs/SERVING.md.
+/// Three threads, one for each further client, and 64 for clients that only read, if there is a listener for them: the caller's
+/// answers the lines of connections, one after another, and so does each of those; one receives datagrams, and sends a NAK frame
+/// after each that its image doesn't refuse while something is missing; one writes and settles blocks of images that recorder
+/// sessions have. docs/SERVING.md.
 ///
 /// A strict server ends by itself once its archive can record nothing: it can't be opened, a write has failed, or its history is
 /// full. What comes back says which, whatever ended the server.
@@ -139,8 +146,7 @@ pub fn serve_with<
 >(
     rt: &R,
     alloc: Global,
-    listener: TcpListener,
-    socket: UdpSocket,
+    ends: Ends,
     disk: D,
     options: &ServeOptions<'_>,
     reporter: T,
@@ -151,16 +157,15 @@ pub fn serve_with<
     ensures early { IfErr result (λ fault.
         IsServedUpTo (D.life disk) (D.life (disk_of fault)) (early_end_of fault)) }
 {
-    serve_flushing(
-        rt, alloc, listener, socket, disk, options, reporter, &Unflushed,
-    )
+    serve_flushing(rt, alloc, ends, disk, options, reporter, &Unflushed)
 }
 
 /// Serves the archive of a disk as `serve_with`. Where several sessions are to settle and syncs are slow, their segment files are
 /// flushed first, beside the archive: by as many further threads as the flusher wants, 8 at most. It is to flush files of that
 /// disk. docs/SERVING.md, "When a frame is durable".
 ///
-/// Connections may follow a recording, if the disk can be opened again and more than one client is served or images are listed: 60
+/// Connections may follow a recording, if the disk can be opened again and more than one client is served or images are listed, and
+/// those of clients that only read, if it can: 60
 /// at a time at most, each by a thread of its own, which reads by an opening of its own. docs/SERVING.md, "Consumers". Costs a
 /// megabyte more for each.
 pub fn serve_flushing<
@@ -171,8 +176,7 @@ pub fn serve_flushing<
 >(
     rt: &R,
     alloc: Global,
-    listener: TcpListener,
-    socket: UdpSocket,
+    ends: Ends,
     disk: D,
     options: &ServeOptions<'_>,
     reporter: T,
@@ -190,7 +194,7 @@ pub fn serve_flushing<
     let (Ok(tools), Ok(seat_room)) = (Tools::new(alloc, options), SeatRoom::new(alloc)) else {
         return Err(ScriptFault::Memory(disk));
     };
-    let places = Places::of(options.clients, may_follow(options, flusher));
+    let places = places_for(options, ends.consumers.is_some(), flusher);
     let Ok(followers) = Followers::new(alloc, places.followers) else {
         return Err(ScriptFault::Memory(disk));
     };
@@ -198,15 +202,7 @@ pub fn serve_flushing<
         Ok(found) => found,
         Err(disk) => return Err(ScriptFault::Memory(disk)),
     };
-    let lines = Connections {
-        alloc,
-        shared,
-        socket,
-        listener: SharedListener::new(rt, listener, &places),
-        options: ClientOptions::of(options, &places),
-        places,
-        followers,
-    };
+    let lines = connections_of(rt, alloc, shared, ends, options, places, followers);
     let serving = Serving {
         rt,
         alloc,
@@ -227,10 +223,52 @@ pub fn serve_flushing<
     handed_back(served, end)
 }
 
-/// Whether connections may follow: the disk can be opened again, and more than one client is served or images are listed.
-fn may_follow<O: Openings>(options: &ServeOptions<'_>, openings: &O) -> bool {
+/// How many clients and followers there are. Connections may follow if the disk can be opened again, and more than one client is
+/// served, images are listed, or clients are served that only read.
+fn places_for<O: Openings>(
+    options: &ServeOptions<'_>,
+    has_consumers: bool,
+    openings: &O,
+) -> Places {
     let serves_several = options.clients.unwrap_or(1) > 1 || options.window.is_some();
-    serves_several && openings.can_open()
+    let follows = (serves_several || has_consumers) && openings.can_open();
+    Places::of(options.clients, has_consumers, follows)
+}
+
+/// What the threads that serve connections share, for so many clients at these ends.
+fn connections_of<R: Wait, T: Reporter>(
+    rt: &R,
+    alloc: Global,
+    shared: Shared<T>,
+    ends: Ends,
+    options: &ServeOptions<'_>,
+    places: Places,
+    followers: Followers,
+) -> Connections<T>
+    ensures { result.places ≡ places }
+{
+    let ending = Ending::new();
+    let control = Port {
+        listener: SharedListener::new(rt, ends.control, places.clients, &ending),
+        options: ClientOptions::of(options, &places),
+    };
+    let consumers = match ends.consumers {
+        Some(listener) => Some(Port {
+            listener: SharedListener::new(rt, listener, CONSUMERS, &ending),
+            options: ClientOptions::of_consumers(options, &places),
+        }),
+        None => None,
+    };
+    Connections {
+        alloc,
+        shared,
+        socket: ends.datagrams,
+        ending,
+        control,
+        consumers,
+        places,
+        followers,
+    }
 }
 
 /// What the threads of a server know of its options.
@@ -286,9 +324,17 @@ fn handed_back<D>(served: Served<D>, end: Result<(), EarlyEnd>) -> Result<Served
 
 /// Reports where the server is, and how its archive began.
 fn begin<R, T: Reporter, F>(with: &Serving<'_, R, T, F>, beginning: Beginning) {
-    let ends = (with.lines.listener.address(), with.socket.local_addr());
+    let ends = (
+        with.lines.control.listener.address(),
+        with.socket.local_addr(),
+    );
     if let (Ok(control), Ok(receive)) = ends {
         with.shared.report(&Happening::Bound { control, receive });
+    }
+    if let Some(port) = &with.lines.consumers {
+        if let Ok(consumers) = port.listener.address() {
+            with.shared.report(&Happening::BoundConsumers { consumers });
+        }
     }
     with.shared
         .report(&Happening::Archive(ArchiveNews::Began(beginning)));
@@ -427,7 +473,7 @@ fn serve_shared<
             let is_whole = receiver.join(*rt);
             (
                 recorder.join(*rt).into_passes(clients),
-                ended_by(lines.listener.end(*rt, shared), is_whole),
+                ended_by(lines.ending.end(*rt, shared), is_whole),
             )
         },
     )
@@ -456,7 +502,7 @@ fn serve_closed<
         serve_unopened(with.rt, with.lines, &with.places);
         with.shared.end(with.socket);
         ended_by(
-            with.lines.listener.end(with.rt, with.shared),
+            with.lines.ending.end(with.rt, with.shared),
             receiver.join(with.rt),
         )
     })

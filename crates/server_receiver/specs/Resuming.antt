@@ -25,6 +25,10 @@ use Rattle.server_receiver.specs.Datagrams.{HandlesFrames, JoinsBy, publication_
 
 -- ---- whether what is missing comes
 
+-- an image that begins to resume: from where, up to where its publication's setup frame was, and when
+abbrev pub begun_image : ℤ → ℤ → ℕ → ResumedImage
+begun_image from to now = record { from = from; to = to; begun = now; rebuilt = from; since = now }
+
 -- all up to the setup frame was rebuilt
 abbrev pub is_whole : Looked → ResumedImage → Bool
 is_whole look image = int_le image.to look.rebuilt
@@ -32,16 +36,16 @@ is_whole look image = int_le image.to look.rebuilt
 -- The time begins anew: more was rebuilt, nothing is asked for, or nothing of the publication came for 1,000 milliseconds.
 abbrev pub begins_anew : Looked → ResumedImage → Bool
 begins_anew look image =
-    not (int_eq look.rebuilt image.rebuilt) || not look.asks || has_passed 1000 look.heard look.now
+    not (int_eq look.rebuilt image.rebuilt) || not look.asks || has_passed 1000 look.heard look.time
 
 -- what an image that resumes is known by then
 abbrev pub looked_at : Looked → ResumedImage → ResumedImage
 looked_at look image =
-    if begins_anew look image then record image { rebuilt = look.rebuilt; since = look.now } else image
+    if begins_anew look image then record image { rebuilt = look.rebuilt; since = look.time } else image
 
 -- It is given up once 5,000 milliseconds have passed without the time beginning anew.
 abbrev pub is_given_up : Looked → ResumedImage → Bool
-is_given_up look image = not (begins_anew look image) && has_passed 5000 image.since look.now
+is_given_up look image = not (begins_anew look image) && has_passed 5000 image.since look.time
 
 abbrev pub progress_of : Looked → ResumedImage → Progress
 progress_of look image =
@@ -81,8 +85,9 @@ note_next (Some i) next = next
 abbrev pub noted_at : Option ℕ → Unresumed → UnresumedPublications → UnresumedPublications
 noted_at i u us = record us { noted = slice_set us.noted (note_place i us.next) (Some u); next = note_next i us.next }
 
-abbrev pub with_unresumed : Unresumed → UnresumedPublications → UnresumedPublications
-with_unresumed u us = noted_at (position (is_noted_of u.publication) us.noted) u us
+abbrev pub with_unresumed : Publication → Resumes → ℕ → UnresumedPublications → UnresumedPublications
+with_unresumed publication cause now us =
+    noted_at (position (is_noted_of publication) us.noted) (record { publication = publication; cause = cause; at = now }) us
 
 -- A publication whose image was given up, or lost, does not resume for 60 seconds.
 abbrev pub resumes_by : ℕ → Option Unresumed → Resumes

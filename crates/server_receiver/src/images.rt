@@ -7,7 +7,7 @@ ghost use Rattle.frame_core.specs.FrameEncoding.{frame_of};
 ghost use Rattle.frame_core.specs.Block.{AreEncodable, publication_of};
 ghost use Rattle.frame_core.specs.Setup.{IsUsable};
 ghost use Rattle.frame_core.specs.declared.refusal.Refusal.TheVariants.{NoMemory};
-ghost use Rattle.server_receiver.specs.Resuming.{HearsAt, HearsIn, ResumesBy, heartbeat_of};
+ghost use Rattle.server_receiver.specs.Resuming.{HearsAt, HearsIn, HearsStand, ResumesBy, heartbeat_of};
 ghost use Rattle.server_receiver.specs.Datagrams.{AsksAfter, AsksOf, BegunBy, GivesNext, HandledAt, HandlesFrames, HandlesIn, HasNext, IsPlaced, Joins, JoinsBy, LacksBlock, SendsRequest, Takes, TakesNext, TakesFrames, has_block_of, has_publication, image_at, image_of, image_with, is_full_image, is_full_of, join_point, place_for_next, publication_of_setup, put_image, unknown_of, vacated_at};
 
 use frame_core::limits::MAX_BLOCK_LENGTH;
@@ -234,10 +234,22 @@ impl Images {
         ensures { ResumesBy begin.now stand.now self.old self.new result }
     {
         let outcome = self.join(begin);
-        if let DatagramOutcome::Joined { place, .. } = outcome {
-            self.hear(place, stand);
-        }
+        self.hear_stand(&outcome, stand);
         outcome
+    }
+
+    /// An image that joined is told that its publication stands where a setup frame says.
+    fn hear_stand(&mut self, outcome: &DatagramOutcome, stand: &Setup)
+        requires { IsUsable stand.now }
+        ensures { HearsStand outcome.now (heartbeat_of stand.now) self.old self.new }
+    {
+        match outcome {
+            DatagramOutcome::Joined { place, point } => {
+                let _ = point;
+                self.hear(*place, stand);
+            }
+            _ => {}
+        }
     }
 
     /// The image at a place is told by a heartbeat that its publication stands where a setup frame says.

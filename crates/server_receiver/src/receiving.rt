@@ -447,7 +447,10 @@ impl<'a, R: Wait + Clock, T: Reporter> Reception<'a, R, T> {
         self.images.remove(place);
         self.leaving.remove(place);
         self.gaps.forget(place);
-        self.resumed.forget(place);
+        if self.resumed.at(place).is_some() {
+            self.shared.counts.resumed_ends.add(1);
+            self.resumed.forget(place);
+        }
     }
 
     /// Whether an image has to leave: it was lost, its session has ended, or it is not live, and no block of it is left for its

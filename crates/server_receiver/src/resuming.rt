@@ -2,7 +2,7 @@
 //! docs/PROTOCOL.md, "Where an image joins".
 
 ghost use Rattle.std.specs.Prelude.{◌≡◌, None, Some, IfSome, replicate, slice_index_or, slice_set};
-ghost use Rattle.server_receiver.specs.Resuming.{IsSetupAt, begins_anew, is_given_up, is_whole, looked_at, progress, progress_of, resumed_after, resumed_on};
+ghost use Rattle.server_receiver.specs.Resuming.{IsSetupAt, begins_anew, begun_image, is_given_up, is_whole, looked_at, progress, progress_of, resumed_after, resumed_on};
 
 use frame_core::{Setup, term_of};
 use stream_pairs::{MAX_IMAGES, Place, StreamPoint};
@@ -36,8 +36,8 @@ pub(crate) struct Looked {
     pub asks: bool,
     /// When something of its publication came last, in milliseconds.
     pub heard: u64,
-    /// The time.
-    pub now: u64,
+    /// The time, in milliseconds.
+    pub time: u64,
 }
 
 /// How far an image is that resumes.
@@ -69,17 +69,9 @@ impl ResumedImages {
 
     /// The image at a place resumes: it began at one position, and its publication's setup frame was at another.
     pub fn begin(&mut self, place: Place, from: i64, to: i64, now: u64)
-        ensures { let image = record { from = from; to = to; begun = now; rebuilt = from; since = now } in
-            self.new ≡ record self.old { images = slice_set self.old.images place (Some image) } }
+        ensures { self.new ≡ record self.old { images = slice_set self.old.images place (Some (begun_image from to now)) } }
     {
-        let image = ResumedImage {
-            from,
-            to,
-            begun: now,
-            rebuilt: from,
-            since: now,
-        };
-        self.set(place, Some(image));
+        self.set(place, Some(begun_image(from, to, now)));
     }
 
     /// Whether the image at a place resumes.
@@ -120,6 +112,19 @@ impl ResumedImages {
         if place < MAX_IMAGES {
             self.images[place] = image;
         }
+    }
+}
+
+/// An image that begins to resume.
+fn begun_image(from: i64, to: i64, now: u64) -> ResumedImage
+    ensures { result ≡ begun_image from to now }
+{
+    ResumedImage {
+        from,
+        to,
+        begun: now,
+        rebuilt: from,
+        since: now,
     }
 }
 
@@ -164,7 +169,7 @@ fn is_whole(look: &Looked, image: &ResumedImage) -> bool
 fn begins_anew(look: &Looked, image: &ResumedImage) -> bool
     ensures { result ≡ begins_anew look.now image.now }
 {
-    look.rebuilt != image.rebuilt || !look.asks || QUIET <= look.now.saturating_sub(look.heard)
+    look.rebuilt != image.rebuilt || !look.asks || QUIET <= look.time.saturating_sub(look.heard)
 }
 
 fn looked_at(look: &Looked, image: &ResumedImage) -> ResumedImage
@@ -173,7 +178,7 @@ fn looked_at(look: &Looked, image: &ResumedImage) -> ResumedImage
     if begins_anew(look, image) {
         ResumedImage {
             rebuilt: look.rebuilt,
-            since: look.now,
+            since: look.time,
             ..*image
         }
     } else {
@@ -184,7 +189,7 @@ fn looked_at(look: &Looked, image: &ResumedImage) -> ResumedImage
 fn is_given_up(look: &Looked, image: &ResumedImage) -> bool
     ensures { result ≡ is_given_up look.now image.now }
 {
-    !begins_anew(look, image) && PATIENCE <= look.now.saturating_sub(image.since)
+    !begins_anew(look, image) && PATIENCE <= look.time.saturating_sub(image.since)
 }
 
 /// The setup frame of a publication by which an image of it begins at a position. None if there is none.

@@ -7,7 +7,7 @@ use crate::images::DatagramOutcome;
 use crate::receiving::Reception;
 use crate::resuming::{Looked, Progress, ResumedImage, setup_at};
 use frame_core::Setup;
-use server_state::{Found, Happening, HoleCause, Reporter, ResumeNews, Resumes, Resumption};
+use server_state::{Found, HoleCause, Reporter, ResumeNews, Resumes, Resumption};
 use std::rt::Clock;
 use std::sync::Wait;
 use stream_pairs::Place;
@@ -70,13 +70,13 @@ impl<R: Wait + Clock, T: Reporter> Reception<'_, R, T> {
         };
         let point = &resumption.image.point;
         let from = resumption.stand.position;
-        self.shared.report(&Happening::Resume(ResumeNews::Resumes {
+        self.shared.report_resume(ResumeNews::Resumes {
             image: key.number,
             publication: point.publication,
             from,
             recording: resumption.stand.recording,
             bytes: bytes_between(from, point.position),
-        }));
+        });
     }
 
     /// Looks whether the image at a place that resumes has what was missing, or has to be given up.
@@ -91,9 +91,13 @@ impl<R: Wait + Clock, T: Reporter> Reception<'_, R, T> {
             rebuilt: known.rebuilt(),
             asks: known.request().is_some(),
             heard: senders.heard(place),
-            now,
+            time: now,
         };
-        match self.resumed.follow(place, &look) {
+        let progress = self.resumed.follow(place, &look);
+        if self.resumed.at(place).is_none() {
+            self.shared.counts.resumed_ends.add(1);
+        }
+        match progress {
             Progress::Waits => {}
             Progress::IsWhole(image) => self.report_filled(place, &image, now),
             Progress::GivesUp(image) => self.give_up(place, &image, now),
@@ -104,12 +108,12 @@ impl<R: Wait + Clock, T: Reporter> Reception<'_, R, T> {
         let Some(key) = self.shared.key_at(self.rt, place) else {
             return;
         };
-        self.shared.report(&Happening::Resume(ResumeNews::Filled {
+        self.shared.report_resume(ResumeNews::Filled {
             image: key.number,
             bytes: bytes_between(image.from, image.to),
             to: image.to,
             millis: now.saturating_sub(image.begun),
-        }));
+        });
     }
 
     /// An image leaves that nothing was sent again for. Its publication does not resume for a while. What a client's session misses
@@ -121,12 +125,12 @@ impl<R: Wait + Clock, T: Reporter> Reception<'_, R, T> {
         let (publication, from) = (*known.publication(), known.rebuilt());
         self.unresumed.note(publication, Resumes::NoRepeat, now);
         if self.feeds_a_clients_session(place) {
-            self.shared.report(&Happening::Resume(ResumeNews::Hole {
+            self.shared.report_resume(ResumeNews::Hole {
                 publication,
                 from,
                 to: image.to,
                 cause: HoleCause::NoRepeat,
-            }));
+            });
         }
         self.leave(place);
     }

@@ -44,8 +44,7 @@ impl UnresumedPublications {
 
     /// Notes one, in place of what was noted of its publication; else one of 64 is forgotten for it, in turn.
     pub fn note(&mut self, publication: Publication, cause: Resumes, now: u64)
-        ensures { let more = record { publication = publication; cause = cause; at = now } in
-            self.new ≡ with_unresumed more self.old }
+        ensures { self.new ≡ with_unresumed publication cause now self.old }
     {
         let found = self.place_of(&publication);
         let place = note_place(found, self.next);

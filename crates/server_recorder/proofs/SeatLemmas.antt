@@ -158,6 +158,14 @@ bench_called history board old new was same pass = record {
   seats = subst (AreSeats board 0) (sym (ap (λ (b : BenchView). b.seats) same)) was.seats;
 }
 
+-- with another session at a seat
+pub bench_reseated : (history board : TableId) (old new : BenchView) (i : ℕ) (session : ℤ) → IsBench history board old → new ≡ record old { seats = reseated_at i session old.seats } → IsBench history board new
+bench_reseated history board old new i session was is = record {
+  table = ap (λ (b : BenchView). b.pass.table) is ∙ was.table;
+  number = ap (λ (b : BenchView). b.pass.number) is ∙ was.number;
+  seats = subst (AreSeats board 0) (sym (ap (λ (b : BenchView). b.seats) is)) (seats_reseated board i session old.seats was.seats);
+}
+
 -- over a look
 pub bench_looked : (history board : TableId) (old new : BenchView) (seen : List Member) → IsBench history board old → new ≡ record old { pass = new.pass } → new.pass ≡ record old.pass { seen = seen } → IsBench history board new
 bench_looked history board old new seen was same looked = bench_called history board old new was same (ap (λ (p : PassView Made). p.table) looked, ap (λ (p : PassView Made). p.number) looked)

@@ -30,18 +30,19 @@ pub(crate) fn keep_short<D: Disk, A: Naming, R: Wait, T: Reporter>(
     }
 }
 
-/// Notes where an archive stands that was just opened. A checkpoint of it is made and noted if that is asked for, and an entry
-/// counts or its bank is of version 1.
+/// Notes where an archive stands that was just opened. A checkpoint of it is made first if that is asked for, and an entry counts or
+/// its bank is of version 1.
 pub fn begin_short<D: Disk, A: Naming, R: Wait, T: Reporter>(
     with: &Recording<'_, D, A, R, T>,
     seats: &mut Seats<A>,
     is_asked: bool,
 ) {
     let standing = seats.standing(with.rt, with.archive);
-    note_standing(with.shared, &standing);
     let is_long = standing.counted > 0 || standing.version == BankVersion::One;
     if is_asked && is_long && with.shared.checkpointing.begins_now() {
         make(with, seats, &standing);
+    } else {
+        note_standing(with.shared, &standing);
     }
 }
 

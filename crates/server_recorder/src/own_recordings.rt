@@ -278,7 +278,7 @@ fn report_before<D: Disk, A: Naming, R: Wait, T: Reporter>(
             end: stand.position,
         }
     };
-    with.shared.report(&Happening::Resume(news));
+    with.shared.report_resume(news);
 }
 
 /// Why a publication does not go on where its last recording ends.

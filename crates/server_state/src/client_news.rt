@@ -41,7 +41,10 @@ impl fmt::Display for ClientNews<'_> {
                 cause,
             } => {
                 let cause = RefusalText(*cause);
-                write!(f, "a follower of recording {recording} ended at {position}: {cause}")
+                write!(
+                    f,
+                    "a follower of recording {recording} ended at {position}: {cause}"
+                )
             }
         }
     }

@@ -20,6 +20,11 @@ pub enum Happening<'a> {
         /// Where datagrams come to.
         receive: SocketAddr,
     },
+    /// The port is bound that lines of clients come to which only read.
+    BoundConsumers {
+        /// Where these lines come to.
+        consumers: SocketAddr,
+    },
     /// Something of the archive.
     Archive(ArchiveNews),
     /// Something of an image, or of the places of images.
@@ -64,6 +69,9 @@ impl fmt::Display for Happening<'_> {
         match self {
             Happening::Bound { control, receive } => {
                 write!(f, "control lines on {control}, datagrams on {receive}")
+            }
+            Happening::BoundConsumers { consumers } => {
+                write!(f, "lines of consumers on {consumers}")
             }
             Happening::Archive(news) => write!(f, "{news}"),
             Happening::Image(news) => write!(f, "{news}"),

@@ -18,6 +18,7 @@ use crate::origins::{Found, Origin, Origins};
 use crate::pairing::{FedSession, ImageKey, Misfit, Pairing};
 use crate::queue::Queue;
 use crate::reporter::Reporter;
+use crate::resume_news::ResumeNews;
 use crate::resuming::{Resumes, Stand, is_resumable};
 use crate::session_news::SessionNews;
 use crate::settle_notice::SettleNotice;
@@ -144,6 +145,22 @@ impl<T: Reporter> Shared<T> {
         self.reporter.report(happening);
     }
 
+    /// Reports something of a publication that came back, and counts it.
+    pub fn report_resume(&self, news: ResumeNews) {
+        match &news {
+            ResumeNews::Resumes { .. } => self.counts.resumed.add(1),
+            ResumeNews::Filled { bytes, .. } => self.counts.resumed_bytes.add(*bytes),
+            ResumeNews::Hole { from, to, .. } => {
+                self.counts.holes.add(1);
+                self.counts
+                    .hole_bytes
+                    .add(to.saturating_sub(*from).unsigned_abs());
+            }
+            ResumeNews::WentBack { .. } => {}
+        }
+        self.report(&Happening::Resume(news));
+    }
+
     /// Reports the end, with what was counted.
     pub fn report_end(&self) {
         let counted = self.counts.all();
@@ -191,6 +208,7 @@ impl<T: Reporter> Shared<T> {
                 status_messages: received.status_messages,
                 images: counted.images,
             },
+            resumes: self.counts.resumes(),
             clients: self.meter.clients(counted.connections),
             recordings,
             images,

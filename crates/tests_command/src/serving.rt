@@ -22,6 +22,8 @@ pub(crate) fn usual<'a>(alloc: Global) -> ServeWords<'a> {
         is_aeron: false,
         window: None,
         clients: None,
+        consumers: None,
+        consumers_on: None,
         streams: Vec::new(alloc),
         segment_length: None,
         is_quiet: false,
@@ -226,6 +228,32 @@ fn serve_has_its_streams(rt: HostRuntime) -> Result<(), Fail> {
     Ok(())
 }
 
+/// A port of consumers, and its address. `serve` refuses an address without a port, and not the command line.
+#[test]
+fn serve_has_its_consumers(rt: HostRuntime) -> Result<(), Fail> {
+    for (options, consumers, consumers_on) in [
+        ("--consumers 1", Some(1), None),
+        (
+            "--consumers=65535 --consumers-on 10.0.0.1",
+            Some(65_535),
+            Some("10.0.0.1"),
+        ),
+        ("--consumers-on=x", None, Some("x")),
+    ] {
+        let line = format!(in rt.alloc();
+            "archive_tool serve a --control 1 --receive 2 {options}"
+        )?;
+        let mut words = usual(rt.alloc());
+        words.consumers = consumers;
+        words.consumers_on = consumers_on;
+        assert!(rt;
+            asks_for(rt.alloc(), line.as_str(), ToolCommand::Serve(words))?,
+            "{line}"
+        );
+    }
+    Ok(())
+}
+
 /// A value that is out of an option's range, or not a number.
 #[test]
 fn options_of_a_server_out_of_range(rt: HostRuntime) -> Result<(), Fail> {
@@ -255,6 +283,8 @@ fn options_of_a_server_out_of_range(rt: HostRuntime) -> Result<(), Fail> {
         ("--aeron --window x", "'x' for '--window <bytes>'"),
         ("--clients 0", "'0' for '--clients <count>'"),
         ("--clients 65", "'65' for '--clients <count>'"),
+        ("--consumers 0", "'0' for '--consumers <port>'"),
+        ("--consumers 65536", "'65536' for '--consumers <port>'"),
         ("--record x", "'x' for '--record <stream id>'"),
         (
             "--record 1 --record 2147483648",
@@ -307,6 +337,8 @@ pub(crate) fn unserved<'a>(
         is_aeron,
         window,
         clients: None,
+        consumers: None,
+        consumers_on: None,
         streams: Vec::new(alloc),
         segment_length: None,
         is_quiet: true,
@@ -393,6 +425,45 @@ fn names_of_a_server(rt: HostRuntime) -> Result<(), Fail> {
         let streams = Streams::new(rt.alloc(), reason);
         assert!(rt; concluded(&streams, ended) == status, "{name} {status}");
         assert!(rt; streams.awaited_came.get(), "{name} {status}");
+    }
+    Ok(())
+}
+
+/// An address of consumers without their port, and one that no machine has, are usage errors too.
+#[test]
+fn wrong_consumers_of_a_server(rt: HostRuntime) -> Result<(), Fail> {
+    let absent = "the folder is not there";
+    let multicast = "--consumers-on wants an address of this machine, not a multicast address";
+    let folder = format!(in rt.alloc();
+        "{}/archive_tool-unconsumed",
+        env::temp_dir(&rt)?.display()
+    )?;
+    let mut out = Vec::new(rt.alloc());
+    for (consumers, consumers_on, reason, status) in [
+        (
+            None,
+            Some("127.0.0.1"),
+            "--consumers-on needs --consumers",
+            2,
+        ),
+        (None, Some("x"), "--consumers-on needs --consumers", 2),
+        (
+            Some(0),
+            Some("10.0.0"),
+            "--consumers-on wants an IPv4 address",
+            2,
+        ),
+        (Some(0), Some("224.0.0.1"), multicast, 2),
+        (Some(0), Some("127.0.0.1"), absent, 3),
+        (Some(0), None, absent, 3),
+    ] {
+        let mut words = unserved(rt.alloc(), folder.as_str(), "127.0.0.1", false, None);
+        words.consumers = consumers;
+        words.consumers_on = consumers_on;
+        let ended = ended(&rt, rt, ToolCommand::Serve(words), NO_LINES, &mut out);
+        let streams = Streams::new(rt.alloc(), reason);
+        assert!(rt; concluded(&streams, ended) == status, "{reason} {status}");
+        assert!(rt; streams.awaited_came.get(), "{reason} {status}");
     }
     Ok(())
 }

@@ -489,6 +489,7 @@ fn commands_that_wait(rt: HostRuntime) -> Result<(), Fail> {
             "archive_tool run a --wait 2",
             ToolCommand::Run {
                 folder: Some("a"),
+                checkpoints: false,
                 wait: Some(2),
             },
         ),

@@ -138,8 +138,9 @@ fn a_server_begins_with_a_checkpoint(rt: HostRuntime) -> Result<(), Fail> {
         };
         let mut options = checkpointing();
         options.begins_short = begins_short;
-        let mut disk =
-            served_with(&rt, rt.alloc(), disk, options, "asks sweep: swept 0\n").ok_or("served")?;
+        let mut disk = served_with(&rt, rt.alloc(), disk, options, "asks sweep: swept 0\n").ok_or(
+            "served",
+        )?;
         let found = bank_of(&mut disk, FileId::BankB)?;
         assert!(rt; found == other, "{begins_short} {has_entries}");
     }

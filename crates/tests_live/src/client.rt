@@ -82,6 +82,21 @@ impl Client {
         }
     }
 
+    /// Whether nothing comes for 300 milliseconds.
+    pub(crate) fn hears_nothing(&mut self, alloc: Global) -> bool {
+        let mut text = Vec::new(alloc);
+        let is_timed = self.listens_for(Duration::from_millis(300));
+        let is_silent = is_timed && self.lines.read_until(b'\n', &mut text).is_err();
+        self.listens_for(Duration::from_secs(PATIENCE)) && is_silent && text.is_empty()
+    }
+
+    fn listens_for(&self, patience: Duration) -> bool {
+        self.lines
+            .get_ref()
+            .set_read_timeout(Some(patience))
+            .is_ok()
+    }
+
     /// Sends a line, and whether this one is answered.
     pub(crate) fn asks(&mut self, alloc: Global, line: &str, answer: &str) -> bool {
         self.say(line) && self.hears(alloc, answer)

@@ -103,7 +103,7 @@ fn is_right<R: Threads + Wait + Clock + Net<Listener = TcpListener, Stream = Tcp
     let Ok(copy) = disk.crash(&[255]) else {
         return false;
     };
-    let Some((listener, socket, ports)) = bound(rt) else {
+    let Some((ends, ports)) = bound(rt) else {
         return false;
     };
     let mut options = options(60, SETTLE_EVERY);
@@ -112,12 +112,7 @@ fn is_right<R: Threads + Wait + Clock + Net<Listener = TcpListener, Stream = Tcp
     let copies = &copies;
     let (has_ended, is_right) = thread::join(
         rt,
-        move || {
-            serve_flushing(
-                rt, alloc, listener, socket, disk, &options, Unreported, copies,
-            )
-            .is_ok()
-        },
+        move || { serve_flushing(rt, alloc, ends, disk, &options, Unreported, copies).is_ok() },
         move || {
             let is_right = goes(rt, alloc, ports, case);
             quits(rt, alloc, ports) && is_right
@@ -177,10 +172,39 @@ fn is_sent<R: Net<Listener = TcpListener, Stream = TcpStream>>(
     ports: Ports,
 ) -> bool {
     let both: [&[u8]; 2] = [HELLO_AT_0, HELLO_AT_64];
-    follows(rt, alloc, ports, "follow 0 -1 -1\n", "following 0\n", &both, 128)
-        && follows(rt, alloc, ports, "follow 0 64 -1\nquit\n", "following 64\n", &both[1..], 128)
-        && follows(rt, alloc, ports, "follow 0 0 1\n", "following 0\n", &both[..1], 64)
-        && follows(rt, alloc, ports, "follow 0 128 -1\n", "following 128\n", &[], 128)
+    follows(
+        rt,
+        alloc,
+        ports,
+        "follow 0 -1 -1\n",
+        "following 0\n",
+        &both,
+        128,
+    ) && follows(
+        rt,
+        alloc,
+        ports,
+        "follow 0 64 -1\nquit\n",
+        "following 64\n",
+        &both[1..],
+        128,
+    ) && follows(
+        rt,
+        alloc,
+        ports,
+        "follow 0 0 1\n",
+        "following 0\n",
+        &both[..1],
+        64,
+    ) && follows(
+        rt,
+        alloc,
+        ports,
+        "follow 0 128 -1\n",
+        "following 128\n",
+        &[],
+        128,
+    )
 }
 
 /// What can't be followed is refused as a replay is, and the connection goes on.
@@ -241,7 +265,9 @@ fn hears_nothing_else(stream: &mut TcpStream, alloc: Global) -> bool {
     if stream.read_to_end(&mut rest).is_err() {
         return false;
     }
-    rest.as_slice().chunks(32).all(|bytes| bytes == sign(0xC0, 128).as_slice())
+    rest.as_slice()
+        .chunks(32)
+        .all(|bytes| bytes == sign(0xC0, 128).as_slice())
 }
 
 #[test]

@@ -60,7 +60,7 @@ fn are_refused<R: Net<Listener = TcpListener, Stream = TcpStream>>(
     for bytes in FOREIGN {
         for first in [1, 3, 64] {
             match answered(rt, alloc, ports, bytes, first) {
-                Some(answer) if answer.as_slice() == b"error 22 BadLine\n" => {}
+                Some(answer) if answer.as_slice() == b"error 22 BadLine\n".as_slice() => {}
                 _ => return false,
             }
         }
@@ -85,11 +85,11 @@ fn are_refused<R: Net<Listener = TcpListener, Stream = TcpStream>>(
 /// Serves an empty disk with options while connections of other protocols come.
 fn check(rt: HostRuntime, options: ServeOptions<'_>) -> Result<(), Fail> {
     let alloc = rt.alloc();
-    let (listener, socket, ports) = bound(&rt).ok_or("ports")?;
+    let (ends, ports) = bound(&rt).ok_or("ports")?;
     let disk = MemoryDisk::new(alloc);
     let (is_served, is_right) = thread::join(
         &rt,
-        move || serve_with(&rt, alloc, listener, socket, disk, &options, Unreported).is_ok(),
+        move || serve_with(&rt, alloc, ends, disk, &options, Unreported).is_ok(),
         move || are_refused(&rt, alloc, ports),
     );
     assert!(rt; is_served && is_right);

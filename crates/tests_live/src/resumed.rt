@@ -113,13 +113,13 @@ fn served<R: Threads + Wait + Clock + Net<Listener = TcpListener, Stream = TcpSt
     options: ServeOptions<'_>,
     conversation: &str,
 ) -> Option<(MemoryDisk, Said)> {
-    let (listener, socket, ports) = bound(rt)?;
+    let (ends, ports) = bound(rt)?;
     let (told, heard) = (Told::new(), Heard::new());
     let (told, hearing) = (&told, Hearing(&heard));
     let (back, is_held) = thread::join(
         rt,
         move || {
-            match serve_with(rt, alloc, listener, socket, disk, &options, hearing) {
+            match serve_with(rt, alloc, ends, disk, &options, hearing) {
                 Ok(served) => Some(served.disk),
                 Err(_) => None,
             }

@@ -25,7 +25,7 @@ module _ {A : Type 0} (ways : Ways A) (checkpoints : Checkpointing A) where
       → IsAnswer ways (asked_copies line) mid (asked (checkpoints.offers mid.archive) line) outcome new
       → OnOk result (Appends contents written (outcome_text outcome)) → IfErr result (λ end. FailsToAnswer end contents written) → RepliesTo ways checkpoints contents written line old new result
   replied contents written line old mid new outcome result prepared answered appended fails =
-      record { reply = outcome_text outcome; answers = (mid, prepared, outcome, answered, refl); told = told contents written outcome result appended fails }
+      record { reply = outcome_text outcome; answers = (mid, prepared, (outcome, answered, refl)); told = told contents written outcome result appended fails }
 
   -- ---- lines one after another
 

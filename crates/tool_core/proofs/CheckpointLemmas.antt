@@ -1,6 +1,6 @@
 -- Checkpoints that a script makes before its lines.
 use Rattle.std.proofs.Common.{◌≡◌, ◌∙◌, ap, refl, sym, subst, inl, inr, Bool, true, false, IsTrue}
-use Rattle.std.specs.Prelude.{MatchBool, Option, Result, Ok}
+use Rattle.std.specs.Prelude.{◌⊎◌, MatchBool, Option, Result, Ok}
 use Rattle.frame_core.specs.declared.refusal.Refusal.{Refusal}
 use Rattle.archive_model.specs.declared.reply.Reply.{Reply}
 use Rattle.merge_core.specs.Merge.{Merging}
@@ -12,9 +12,9 @@ use Rattle.engine_core.specs.Engine.{DiskGoesOn, EngineState}
 use Rattle.tool_core.specs.declared.state.ScriptState.{ScriptState}
 use Rattle.tool_core.specs.Answering.{Prepares}
 use Rattle.tool_core.specs.Archives.{Closed, Open, SeenArchive, archive_ways, life_of}
-use Rattle.tool_core.specs.Checkpoints.{Checkpoints, ChecksDue, MakesDue, PreparesArchive, checkpoint_due, script_checkpoints}
+use Rattle.tool_core.specs.Checkpoints.{Checkpoints, ChecksDue, PreparesArchive, checkpoint_due, script_checkpoints}
 use Rattle.tool_core.specs.ScriptLines.{ReadLineOrWant, Scene, Standing, closed, doubtful, opened, refused, unknown}
-use Rattle.tool_core.proofs.GoesOnLemmas.{calls_go_on, no_calls}
+use Rattle.tool_core.proofs.GoesOnLemmas.{no_calls}
 use Rattle.tool_core.proofs.LineLemmas.{IsScene, answered}
 use Rattle.tool_core.proofs.StandingLemmas.{IsOfDisk, IsStanding}
 

@@ -12,7 +12,7 @@ use Rattle.catalogue_log.specs.LogState.{Banks}
 use Rattle.tool_core.specs.Answering.{IsAnswer, LineIs}
 use Rattle.tool_core.specs.Archives.{Closed, SeenArchive, archive_ways, life_of}
 use Rattle.tool_core.specs.Merging.{Ends}
-use Rattle.tool_core.specs.ScriptLines.{ReadLineOrWant, Calls, LeavesMeanwhile, LineEnds, OrWant, Records, Scene, Standing, WhereOpen, WritesBytes}
+use Rattle.tool_core.specs.ScriptLines.{ReadLineOrWant, LeavesMeanwhile, LineEnds, OrWant, Records, Scene, Standing, WhereOpen, WritesBytes}
 use Rattle.tool_core.proofs.BanksLemmas.{IsBanksOf, KeepsBanks, banks_kept, calls_banks, records_keep, reopen_banks, stays_or, stays_so, writes_keep}
 use Rattle.tool_core.proofs.CallLemmas.{Kept, bytes_kept, event_kept}
 use Rattle.tool_core.proofs.CompactLemmas.{compact_kept}

@@ -9,7 +9,7 @@ use Rattle.tool_core.specs.declared.state.ScriptState.{ScriptState}
 use Rattle.tool_core.specs.Answering.{AnswersFirstLines, AnswersLines, Checkpointing, Prepares, IsAnswer, Replies, RepliesOf, Ways, asked, asked_copies, begun_with, checkpointing_seen, outcome_text, quits, ways_seen}
 use Rattle.tool_core.specs.Archives.{BeginsAs, ReadsMayStay, SeenArchive, archive_ways, life_of}
 use Rattle.tool_core.specs.Script.{AnswersLineWhere, Begins, BeginsAt, IsTranscriptBy, LeavesBanksOf, LeavesScene, LeavesStanding}
-use Rattle.tool_core.specs.Checkpoints.{ChecksDue, script_checkpoints}
+use Rattle.tool_core.specs.Checkpoints.{script_checkpoints}
 use Rattle.tool_core.specs.CheckpointedScript.{AnswersScene}
 use Rattle.tool_core.specs.ScriptLines.{Scene, Standing}
 use Rattle.tool_core.specs.Transcript.{AnswersAll, AnswersSome}
@@ -74,7 +74,7 @@ module _ (makes : Bool) {A : Type 0} (view : A → SeenArchive) (of_disk : (arch
   back s line reply t replies obeys = was_obeyed makes (at s) line reply (at t) (replies_seen view archive_ways (script_checkpoints makes) s line reply t replies) obeys
 
   step : (s : ScriptState A) (line : Option (List ℕ)) (reply : List ℕ) (t : ScriptState A) (x : Scene) → Replies ways checkpoints s line reply t → Good t → IsAt s x → (y : Scene) × IsAt t y × AnswersScene makes x line reply y
-  step s line reply t x (mid, prepares, outcome, answer, text) obeys is =
+  step s line reply t x (mid, prepares, (outcome, answer, text)) obeys is =
       one_line makes (at s) (at mid) line reply (at t) x (of_disk s.archive) (of_disk mid.archive) obeys is prepares
       (outcome, is_answer view archive_ways (asked_copies line) mid (asked ((script_checkpoints makes).offers (view mid.archive)) line) outcome t answer, text)
 

@@ -55,8 +55,8 @@ module _ {A B : Type 0} (view : A → B) (ways : Ways B) where
     SeenCheckpoints = checkpointing_seen view checkpoints
 
     pub replies_seen : (old : ScriptState A) (line : Option (List ℕ)) (text : List ℕ) (new : ScriptState A) → Replies Seen SeenCheckpoints old line text new → Replies ways checkpoints (state_seen old) line text (state_seen new)
-    replies_seen old line text new (mid, prepared, outcome, answer, is) =
-        (state_seen mid, prepared, outcome, is_answer (asked_copies line) mid (asked (checkpoints.offers (view mid.archive)) line) outcome new answer, is)
+    replies_seen old line text new (mid, prepared, (outcome, answer, is)) =
+        (state_seen mid, prepared, (outcome, is_answer (asked_copies line) mid (asked (checkpoints.offers (view mid.archive)) line) outcome new answer, is))
 
     back : (s : ScriptState A) (line : Option (List ℕ)) (reply : List ℕ) (t : ScriptState A) → Replies Seen SeenCheckpoints s line reply t → Unit {0} → Unit {0}
     back s line reply t replies good = tt

@@ -1,0 +1,23 @@
+-- Which lines a port of consumers answers: docs/SERVING.md, "Consumers".
+use Rattle.std.specs.Prelude.{◌≡◌, ◌++◌, ◌||◌, ◌==◌, ℕ, Bool, true, false, List, [], Option, Some, None, bytes_eq, codes}
+use Rattle.std.specs.List.{before_first}
+
+-- the first word of a line: its bytes before the first blank, or all of them
+abbrev pub first_word : List ℕ → List ℕ
+first_word line = before_first (λ b. b == 32) line
+
+-- the first words of the lines that are answered there
+abbrev pub is_consumer_word : List ℕ → Bool
+is_consumer_word word =
+    bytes_eq word (codes "list") || bytes_eq word (codes "find") || bytes_eq word (codes "positions") || bytes_eq word (codes "source")
+    || bytes_eq word (codes "images") || bytes_eq word (codes "follow") || bytes_eq word (codes "quit")
+
+-- a line is answered there; any other is BadLine
+abbrev pub is_for_consumers : List ℕ → Bool
+is_for_consumers line = is_consumer_word (first_word line)
+
+-- Whether a line that begins with these bytes is answered there. Nothing is said while that depends on what follows.
+abbrev pub IsDecided : Bool → List ℕ → Option Bool → Type 0
+IsDecided is_whole front None = is_whole ≡ false
+IsDecided true front (Some answered) = is_for_consumers front ≡ answered
+IsDecided false front (Some answered) = (rest : List ℕ) → is_for_consumers (front ++ rest) ≡ answered
