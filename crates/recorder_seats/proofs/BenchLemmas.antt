@@ -21,7 +21,7 @@ use Rattle.archive_lock.specs.Durable.{AnswersSession}
 use Rattle.archive_lock.specs.History.{EndsWithAnswer, IsNoted, Member}
 use Rattle.archive_lock.specs.Several.{EndsWithAnswers}
 use Rattle.recorder_seats.specs.declared.bench.BenchSeat.{BenchSeat}
-use Rattle.recorder_seats.specs.Bench.{AllAreAmong, AreOfBoard, AreUnraised, IsSettledAmong, RaisedAreAmong, changed_by, group_outcome, raised_at, raised_each, session_at, sessions_at}
+use Rattle.recorder_seats.specs.Bench.{AllAreAmong, AreOfBoard, AreUnraised, IsSettledAmong, RaisedAreAmong, changed_seat, group_outcome, raised_at, raised_each, seat_session, sessions_at}
 use Rattle.recorder_seats.specs.Seat.{raised_positions, raised_unless_below, settling_outcome}
 use Rattle.recorder_seats.proofs.SeatLemmas.{each_of, noted_or, one_more}
 
@@ -80,10 +80,10 @@ each_set P (y ∷ ys) zero x all is = (is, all.1)
 each_set P (y ∷ ys) (suc n) x all is = (all.0, each_set P ys n x all.1 is)
 
 -- what each seat has, and one that was changed has too
-each_changed : (P : BenchSeat → Type 0) (change : BenchSeat → BenchSeat) (n : ℕ) (seats : List BenchSeat) → ((seat : BenchSeat) → P seat → P (change seat)) → Each P seats → Each P (changed_by (slice_get seats n) n change seats)
+each_changed : (P : BenchSeat → Type 0) (change : BenchSeat → BenchSeat) (n : ℕ) (seats : List BenchSeat) → ((seat : BenchSeat) → P seat → P (change seat)) → Each P seats → Each P (changed_seat (slice_get seats n) n change seats)
 each_changed P change n seats keeps all = by (slice_get seats n) refl
   where
-    by : (o : Option BenchSeat) → slice_get seats n ≡ o → Each P (changed_by o n change seats)
+    by : (o : Option BenchSeat) → slice_get seats n ≡ o → Each P (changed_seat o n change seats)
     by None is = all
     by (Some seat) is = each_set P seats n (change seat) all (keeps seat (each_get P seats n seat all is))
 
@@ -186,10 +186,10 @@ no_pairs (x ∷ xs) (y ∷ ys) is = by is
     by (inr gone) = absurd cc
 
 -- the session of one seat more
-pub sessions_next : (indices : List ℕ) (seats : List BenchSeat) (i : ℕ) → i < length indices → sessions_at (take (suc i) indices) seats ≡ sessions_at (take i indices) seats ++ session_at seats (slice_index_or indices i 0) ∷ []
+pub sessions_next : (indices : List ℕ) (seats : List BenchSeat) (i : ℕ) → i < length indices → sessions_at (take (suc i) indices) seats ≡ sessions_at (take i indices) seats ++ seat_session seats (slice_index_or indices i 0) ∷ []
 sessions_next [] seats i below = absurd (omega (arith, below))
 sessions_next (n ∷ ns) seats zero below = refl
-sessions_next (n ∷ ns) seats (suc i) below = ap (λ (sessions : List ℤ). session_at seats n ∷ sessions) (sessions_next ns seats i (omega (arith, below)))
+sessions_next (n ∷ ns) seats (suc i) below = ap (λ (sessions : List ℤ). seat_session seats n ∷ sessions) (sessions_next ns seats i (omega (arith, below)))
 
 abbrev the_error : Refusal → Result Reply Refusal
 the_error refusal = Err refusal

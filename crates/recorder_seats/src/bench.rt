@@ -9,7 +9,7 @@ ghost use Rattle.engine_core.specs.Grouping.{segments_each};
 ghost use Rattle.archive_lock.specs.History.{EndsWithAnswer, IsNoted, LeadsToDesk, SeesDesk};
 ghost use Rattle.archive_lock.specs.Several.{EndsWithAnswers};
 ghost use Rattle.archive_lock.specs.Standing.{standing_of};
-ghost use Rattle.recorder_seats.specs.Bench.{AllAreAmong, AreOfBoard, AreUnraised, group_outcome, raised_at, raised_each, reseated_at, session_at, sessions_at};
+ghost use Rattle.recorder_seats.specs.Bench.{AllAreAmong, AreOfBoard, AreUnraised, group_outcome, raised_at, raised_each, reseated_at, seat_session, sessions_at};
 ghost use Rattle.recorder_seats.specs.Seat.{raised_unless_below, settling_outcome};
 
 use crate::seat::settled_position;
@@ -95,12 +95,12 @@ impl RecorderBench {
     ) -> Result<Reply, Refusal>
         requires { self.old.pass.table ≡ A.table }
         ensures answers { IsNoted result → EndsWithAnswer D.life A.opening self.old.pass
-            (Write (session_at self.old.seats seat) block) result self.new.pass }
+            (Write (seat_session self.old.seats seat) block) result self.new.pass }
         ensures unnoted { IsErrOf result NoMemory → self.new.pass ≡ self.old.pass }
         ensures pass { (self.new.pass.table ≡ self.old.pass.table) × (self.new.pass.number ≡ self.old.pass.number) }
         ensures same { self.new ≡ record self.old { pass = self.new.pass } }
     {
-        let session = session_at(self.seats.as_slice(), seat);
+        let session = seat_session(self.seats.as_slice(), seat);
         archive.call(rt, alloc, &mut self.pass, &Event::Write { session, block })
     }
 
@@ -192,7 +192,7 @@ impl RecorderBench {
         requires pass { self.old.pass.table ≡ A.table }
         requires writers { AreOfBoard board.now self.old.seats }
         ensures answers { IsNoted (settling_outcome result.0) → EndsWithAnswer D.life A.opening self.old.pass
-            (Settle (session_at self.old.seats seat)) (settling_outcome result.0) self.new.pass }
+            (Settle (seat_session self.old.seats seat)) (settling_outcome result.0) self.new.pass }
         ensures unnoted { IsErrOf result.0 NoMemory → self.new.pass ≡ self.old.pass }
         ensures raised { MatchResult result.0
             (λ position. self.new.seats ≡ raised_at seat (Some position) self.old.seats)
@@ -204,7 +204,7 @@ impl RecorderBench {
             IsNoted (settling_outcome result.0)
             × LeadsToDesk A.opening self.new.pass.seen (λ d. standing ≡ standing_of d)) }
     {
-        let session = session_at(self.seats.as_slice(), seat);
+        let session = seat_session(self.seats.as_slice(), seat);
         let (outcome, standing) = archive.call_with_standing(
             rt,
             alloc,
@@ -258,8 +258,8 @@ impl RecorderBench {
 }
 
 /// The session of the seat at an index. A number that no session has where there is none.
-fn session_at(seats: &[BenchSeat], index: usize) -> i64
-    ensures { result ≡ session_at seats.now index }
+fn seat_session(seats: &[BenchSeat], index: usize) -> i64
+    ensures { result ≡ seat_session seats.now index }
 {
     match seats.get(index) {
         Some(seat) => seat.session,
@@ -278,7 +278,7 @@ fn sessions_at(
 {
     let mut sessions = Items::new(alloc);
     for index in indices {
-        sessions.push(session_at(seats, *index))?;
+        sessions.push(seat_session(seats, *index))?;
     }
     Ok(sessions)
 }
