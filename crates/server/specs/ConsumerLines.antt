@@ -1,6 +1,6 @@
 -- Which lines a port of consumers answers: docs/SERVING.md, "Consumers".
-use Rattle.std.specs.Prelude.{◌≡◌, ◌++◌, ◌||◌, ◌==◌, ℕ, Bool, true, false, List, [], Option, Some, None, bytes_eq, codes}
-use Rattle.std.specs.List.{before_first}
+use Rattle.std.specs.Prelude.{◌≡◌, ◌⊎◌, ◌<◌, ◌++◌, ◌||◌, ◌==◌, length, ℕ, Bool, true, false, List, [], Option, Some, None, bytes_eq, codes}
+use Rattle.std.specs.List.{before_first, position_or_len}
 
 -- the first word of a line: its bytes before the first blank, or all of them
 abbrev pub first_word : List ℕ → List ℕ
@@ -15,6 +15,10 @@ is_consumer_word word =
 -- a line is answered there; any other is BadLine
 abbrev pub is_for_consumers : List ℕ → Bool
 is_for_consumers line = is_consumer_word (first_word line)
+
+-- the first word of bytes is known, whatever follows them, or they are too many for one that is answered
+abbrev pub IsKnown : List ℕ → Type 0
+IsKnown front = (position_or_len (λ b. b == 32) front < length front) ⊎ (9 < length front)
 
 -- Whether a line that begins with these bytes is answered there. Nothing is said while that depends on what follows.
 abbrev pub IsDecided : Bool → List ℕ → Option Bool → Type 0
