@@ -197,6 +197,14 @@ LacksCatalogue old new (Refused NotCatalogue) = IsTrue new.obeys → IsWithoutCa
 LacksCatalogue old new (Refused DeviceFault) = Unit {0}
 LacksCatalogue old new ending = ⊥
 
+-- a server that asks for a catalogue ended so, and left a disk without one, which was at most looked at
+pub record LeavesUncatalogued (asked : Bool) (old : Life) (left : Option Life) (ending : Ending) : Type 0 where
+  pub must : IsTrue asked
+  pub new : Life
+  pub quiet : IsQuiet old new
+  pub lacks : LacksCatalogue old new ending
+  pub is : left ≡ Some new
+
 -- ---- the server
 
 -- How a server over a disk ends, a strict one or one that is not, and what it leaves: by a line that quits, or early. A strict one

@@ -12,7 +12,7 @@ ghost use Rattle.command_line.specs.declared.usage.UsageError.TheVariants.{Name}
 ghost use Rattle.frame_core.specs.declared.refusal.Refusal.TheVariants.{NotCatalogue};
 ghost use Rattle.folder_commands.specs.Folders.{ending_in};
 ghost use Rattle.folder_commands.specs.Left.{ends_with, leaves, left_life, sees};
-ghost use Rattle.folder_commands.specs.Serving.{AreOptions, AsksForCheckpoints, HasBadCheckpoints, HasBadName, HasBadOptions, HasBadSegments, HasBadStreams, HasBadWindow, HasNoConsumersEnd, HasNoEnds, HasSegments, HasWindow, IsAddressReason, HasCatalogue, HasName, IsNoAddress, IsReceiverWindow, IsSegmentLength, IsUnbound, LacksCatalogue, RecordsStreams, ServesFolder, ServesOver, checkpoints_reason, is_name_byte, is_recorder_name, segment_reason, streams_reason, window_reason};
+ghost use Rattle.folder_commands.specs.Serving.{AreOptions, AsksForCheckpoints, HasBadCheckpoints, HasBadName, HasBadOptions, HasBadSegments, HasBadStreams, HasBadWindow, HasNoConsumersEnd, HasNoEnds, HasSegments, HasWindow, IsAddressReason, HasCatalogue, HasName, IsNoAddress, IsReceiverWindow, IsSegmentLength, IsUnbound, LacksCatalogue, LeavesUncatalogued, RecordsStreams, ServesFolder, ServesOver, checkpoints_reason, is_name_byte, is_recorder_name, segment_reason, streams_reason, window_reason};
 
 use crate::exit::Exit;
 use crate::flushing::FolderFlusher;
@@ -87,7 +87,7 @@ pub(crate) fn serve<
         Err(exit) => return Err(unserved(exit, disk)),
     };
     let looked = warns_of_hidden_by(rt, folder, &log_of(net, words));
-    let options = begun(options, looked.is_none());
+    let begun = begun_with(options, looked.is_none());
     if let Some(looked) = looked {
         if words.is_strict {
             return Err(Outcome {
@@ -97,20 +97,17 @@ pub(crate) fn serve<
             });
         }
     }
-    let disk = match with_catalogue(disk, words.no_create) {
-        Ok(disk) => disk,
-        Err((exit, disk)) => return Err(unserved(exit, disk)),
-    };
-    let disk = Watched::new(disk, ServeFaults::new(rt.alloc(), log_of(net, words)));
+    let ready = with_catalogue(disk, words.no_create)?;
+    let disk = Watched::new(ready, ServeFaults::new(rt.alloc(), log_of(net, words)));
     let metrics = metrics_of(rt, words);
     let reporter = ServeReporter::new(log_of(net, words), words.is_quiet, metrics);
     let flusher = FolderFlusher::<R, Brand>::new(log_of(net, words), rt, folder);
-    let (disk, done) = serve_disk(net, rt.alloc(), ends, disk, &options, reporter, &flusher);
+    let (disk, done) = serve_disk(net, rt.alloc(), ends, disk, &begun, reporter, &flusher);
     Outcome::leaving(done, closed(disk))
 }
 
 /// The options of a server that makes no checkpoint before its first line if its catalogue may hide entries.
-fn begun<'a>(options: ServeOptions<'a>, is_plain: bool) -> ServeOptions<'a>
+fn begun_with<'a>(options: ServeOptions<'a>, is_plain: bool) -> ServeOptions<'a>
     ensures { result ≡ record options { begins_short = options.begins_short && is_plain } }
 {
     ServeOptions {
@@ -141,12 +138,13 @@ fn unserved(exit: Exit, disk: HostDisk) -> Outcome
     }
 }
 
-/// The disk, if no catalogue is asked for, or there is one; else why not, and the disk.
-fn with_catalogue(disk: HostDisk, must_exist: bool) -> Result<HostDisk, (Exit, HostDisk)>
-    ensures there { IfOk result (λ back. IsQuiet (host_life disk) (host_life back)
-        × (IsTrue must_exist → HasCatalogue (host_life disk) (host_life back))) }
-    ensures lacks { IfErr result (λ found. IsTrue must_exist × IsQuiet (host_life disk) (host_life found.1)
-        × LacksCatalogue (host_life disk) (host_life found.1) found.0.ending) }
+/// The disk, if no catalogue is asked for, or there is one; else how a server ends that wants one. The disk is closed then.
+fn with_catalogue(disk: HostDisk, must_exist: bool) -> Result<HostDisk, Outcome>
+    ensures quiet { IfOk result (λ back. IsQuiet (host_life disk) (host_life back)) }
+    ensures there { IfOk result (λ back.
+        IsTrue must_exist → HasCatalogue (host_life disk) (host_life back)) }
+    ensures lacks { IfErr result (λ outcome. LeavesUncatalogued must_exist (host_life disk)
+        (left_life outcome.left) outcome.exit.ending) }
 {
     if !must_exist {
         return Ok(disk);
@@ -154,7 +152,7 @@ fn with_catalogue(disk: HostDisk, must_exist: bool) -> Result<HostDisk, (Exit, H
     let mut disk = disk;
     match has_catalogue(&mut disk) {
         Ok(true) => Ok(disk),
-        Ok(false) => Err((
+        Ok(false) => Err(unserved(
             Exit {
                 ending: Ending::Refused(Refusal::NotCatalogue),
                 why: Why::NoArchive,
@@ -163,7 +161,7 @@ fn with_catalogue(disk: HostDisk, must_exist: bool) -> Result<HostDisk, (Exit, H
         )),
         Err(_) => {
             let exit = Exit::stopped(Stop::Refused(Refusal::DeviceFault), disk.last_fault());
-            Err((exit, disk))
+            Err(unserved(exit, disk))
         }
     }
 }

@@ -9,7 +9,7 @@ use Rattle.std.proofs.lemmas.List.Folds.{length-prefix_len, prefix_len-append}
 use Rattle.std.proofs.lemmas.List.Sums.{position_or_len_is, prefix_len-le-length}
 use Rattle.std.proofs.lemmas.Slice.Eq.{bytes_eq-Decides}
 use Rattle.memchr.specs.Find.{IsFirstByte, is_byte}
-use Rattle.server.specs.ConsumerLines.{IsDecided, IsKnown, first_word, is_consumer_word, is_for_consumers}
+use Rattle.server.specs.ConsumerLines.{IsWordDecided, IsWordKnown, first_word, is_consumer_word, is_for_consumers}
 
 abbrev pub blank : ℕ → Bool
 blank b = b == 32
@@ -28,7 +28,7 @@ word_before line None none =
 word_before line (Some at) first =
     ap (λ k. take k line) (position_or_len_is blank line at 0 (omega (arith, (first.0).high)) (λ k below. not_true _ ((first.0).before k (omega arith) below)) (λ within. first.1))
 
-pub word_ends : (line : List ℕ) (at : ℕ) → IsFirstByte (is_byte 32) line (Some at) → IsKnown line
+pub word_ends : (line : List ℕ) (at : ℕ) → IsFirstByte (is_byte 32) line (Some at) → IsWordKnown line
 word_ends line at first =
     let is : position_or_len blank line ≡ at = position_or_len_is blank line at 0 (omega (arith, (first.0).high)) (λ k below. not_true _ ((first.0).before k (omega arith) below)) (λ within. first.1) in
     inl (omega (arith, is, (first.0).high))
@@ -69,7 +69,7 @@ too_long word long =
     ) refl
 
 -- what is known of bytes stays, whatever follows: the first word has ended, or it is too long
-stays : (front rest : List ℕ) → IsKnown front → is_for_consumers (front ++ rest) ≡ is_for_consumers front
+stays : (front rest : List ℕ) → IsWordKnown front → is_for_consumers (front ++ rest) ≡ is_for_consumers front
 stays front rest (inl within) = ap is_consumer_word (word_stays front rest within)
 stays front rest (inr long) = by (split (position_or_len blank front) (length front) (prefix_len-le-length (λ b. not (blank b)) front))
   where
@@ -82,7 +82,7 @@ stays front rest (inr long) = by (split (position_or_len blank front) (length fr
         let all : length (first_word front) ≡ position_or_len blank front = length-prefix_len (λ b. not (blank b)) front in
         too_long (first_word (front ++ rest)) (omega (arith, long, word_grows front rest whole)) ∙ sym (too_long (first_word front) (omega (arith, long, all, whole)))
 
-pub decides : (is_whole : Bool) (front : List ℕ) (answered : Bool) → (is_whole ≡ true) ⊎ IsKnown front → answered ≡ is_for_consumers front → IsDecided is_whole front (Some answered)
+pub decides : (is_whole : Bool) (front : List ℕ) (answered : Bool) → (is_whole ≡ true) ⊎ IsWordKnown front → answered ≡ is_for_consumers front → IsWordDecided is_whole front (Some answered)
 decides true front answered known is = sym is
 decides false front answered (inl whole) is = absurd (cc whole)
 decides false front answered (inr known) is = λ rest. stays front rest known ∙ sym is

@@ -2,7 +2,7 @@
 //! "Consumers".
 
 ghost use Rattle.std.specs.Prelude.{◌≡◌, ◌≤◌, ◌<◌, IfNone, IfSome, IsFalse, IsTrue, false, true, length, vec_len};
-ghost use Rattle.server.specs.ConsumerLines.{IsDecided, IsKnown, first_word, is_consumer_word, is_for_consumers};
+ghost use Rattle.server.specs.ConsumerLines.{IsWordDecided, IsWordKnown, first_word, is_consumer_word, is_for_consumers};
 
 use memchr::memchr;
 use std::alloc::{AllocError, Global};
@@ -177,7 +177,7 @@ fn line_length(bytes: &[u8]) -> usize
 /// word is, or more than the longest word.
 #[tactic(auto, using(crate::proofs::ConsumerLemmas::decides))]
 fn decided(front: &[u8], is_whole: bool) -> Option<bool>
-    ensures decided { IsDecided is_whole front.now result }
+    ensures decided { IsWordDecided is_whole front.now result }
     ensures short { IfNone result (length front.now < 10) }
 {
     if is_whole {
@@ -192,7 +192,7 @@ fn decided(front: &[u8], is_whole: bool) -> Option<bool>
 /// Whether bytes have the first word of their line, or are too many for a word that is answered.
 #[tactic(auto, using(crate::proofs::ConsumerLemmas::word_ends))]
 fn is_known(front: &[u8]) -> bool
-    ensures known { IsTrue result → IsKnown front.now }
+    ensures known { IsTrue result → IsWordKnown front.now }
     ensures short { IsFalse result → length front.now < 10 }
 {
     match memchr(b' ', front) {

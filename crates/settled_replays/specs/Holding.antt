@@ -47,22 +47,22 @@ module _ {D : Type 0} (life : D → Life) (opening : EngineState) where
     pub unnoted : IsErrOf outcome NoMemory → new ≡ old
 
   -- a replay of a recording is opened at a position, for a length in bytes of the stream, and has this number
-  abbrev pub PassOpens : PassView Made → ℤ → ℤ → ℤ → ℤ → PassView Made → Type 0
-  PassOpens old recording position size number new = PassAsks old (ReplayOpen recording position size) (Ok (ReplayOpened number)) new
+  abbrev pub OpensReplay : PassView Made → ℤ → ℤ → ℤ → ℤ → PassView Made → Type 0
+  OpensReplay old recording position size number new = PassAsks old (ReplayOpen recording position size) (Ok (ReplayOpened number)) new
 
   -- a replay is closed by a call, however that is answered
-  abbrev pub PassCloses : PassView Made → ℤ → PassView Made → Type 0
-  PassCloses old number new = (outcome : Result Reply Refusal) × PassAsks old (ReplayClose number) outcome new
+  abbrev pub ClosesHeld : PassView Made → ℤ → PassView Made → Type 0
+  ClosesHeld old number new = (outcome : Result Reply Refusal) × PassAsks old (ReplayClose number) outcome new
 
   -- a recording's positions are asked for, by one call, and this is answered
   abbrev pub AsksPositions : PassView Made → ℤ → Result Seen Refusal → PassView Made → Type 0
   AsksPositions old recording answer new = PassAsks old (Ask (Positions recording)) (positions_outcome answer) new
 
   -- A replay further on was opened first, and then the one before was closed: at no call between was there none.
-  pub record MovesHeldOn (old new : HeldReplayView) (position size : ℤ) : Type 0 where
+  pub record MovesReplayOn (old new : HeldReplayView) (position size : ℤ) : Type 0 where
     pub mid : PassView Made
-    pub opens : PassOpens old.pass old.recording position size new.number mid
-    pub closes : PassCloses mid old.number new.pass
+    pub opens : OpensReplay old.pass old.recording position size new.number mid
+    pub closes : ClosesHeld mid old.number new.pass
     pub same : new ≡ record old { pass = new.pass; number = new.number; from = position }
 
   -- An opening was refused, and the replay before it stays.
@@ -71,7 +71,7 @@ module _ {D : Type 0} (life : D → Life) (opening : EngineState) where
     pub same : new ≡ record old { pass = new.pass }
 
   -- The positions of its own recording were asked for: it is seen to be recorded up to what was answered.
-  pub record LooksAtPositions (old new : HeldReplayView) : Type 0 where
+  pub record LooksAgain (old new : HeldReplayView) : Type 0 where
     pub positions : Seen
     pub asks : AsksPositions old.pass old.recording (Ok positions) new.pass
     pub same : new ≡ record old { pass = new.pass; seen = positions.recorded; is_active = is_unstopped positions }

@@ -6,7 +6,7 @@ ghost use Rattle.archive_model.specs.declared.reply.Reply.{Reply};
 ghost use Rattle.archive_model.specs.declared.reply.Reply.TheVariants.{Positions as PositionsReply, ReplayOpened};
 ghost use Rattle.control_core.specs.declared.event.Event.TheVariants.{Ask, ReplayClose, ReplayOpen};
 ghost use Rattle.control_core.specs.declared.request.Request.TheVariants.{List};
-ghost use Rattle.settled_replays.specs.Holding.{PassAsks, AsksPositions, PassCloses, is_unstopped, opening_outcome};
+ghost use Rattle.settled_replays.specs.Holding.{PassAsks, AsksPositions, ClosesHeld, is_unstopped, opening_outcome};
 
 use archive_lock::{Made, Naming, SharedArchive};
 use archive_model::{Descriptor, Reply};
@@ -37,7 +37,7 @@ impl Seen {
     }
 }
 
-/// PassOpens a replay of a recording, and gives its number.
+/// Opens a replay of a recording, and gives its number.
 #[tactic(auto, using(crate::proofs::AnswerLemmas::opening_told))]
 pub(crate) fn opened<D: Disk, A: Naming, R: Wait>(
     rt: &R,
@@ -72,7 +72,7 @@ fn number_of(reply: &Reply) -> i64
     }
 }
 
-/// PassCloses a replay, however that is answered.
+/// Closes a replay, however that is answered.
 pub(crate) fn close<D: Disk, A: Naming, R: Wait>(
     rt: &R,
     alloc: Global,
@@ -81,13 +81,13 @@ pub(crate) fn close<D: Disk, A: Naming, R: Wait>(
     replay: i64,
 )
     requires { pass.old.table ≡ A.table }
-    ensures closes { PassCloses D.life A.opening pass.old replay pass.new }
+    ensures closes { ClosesHeld D.life A.opening pass.old replay pass.new }
     ensures pass { (pass.new.table ≡ pass.old.table) × (pass.new.number ≡ pass.old.number) }
 {
     let _ = archive.call(rt, alloc, pass, &Event::ReplayClose { replay });
 }
 
-/// PassAsks for a recording's positions.
+/// Asks for a recording's positions.
 #[tactic(auto, using(crate::proofs::AnswerLemmas::positions_told))]
 pub(crate) fn positions_of<D: Disk, A: Naming, R: Wait>(
     rt: &R,

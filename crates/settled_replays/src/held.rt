@@ -2,7 +2,7 @@
 
 ghost use Rattle.std.specs.Prelude.{◌≡◌, Err, IfErr, IfOk, OnErr, OnOk, true};
 ghost use Rattle.control_core.specs.declared.event.Event.TheVariants.{ReplayOpen};
-ghost use Rattle.settled_replays.specs.Holding.{PassAsks, PassCloses, LooksAtPositions, MovesHeldOn, PassOpens, SeesNothing, StaysHeld};
+ghost use Rattle.settled_replays.specs.Holding.{PassAsks, ClosesHeld, LooksAgain, MovesReplayOn, OpensReplay, SeesNothing, StaysHeld};
 ghost use Rattle.settled_replays.specs.Reading.{KeepsUp, LooksIfRead};
 
 use crate::calls::{close, opened, positions_of};
@@ -51,7 +51,7 @@ pub struct Unopened {
 }
 
 impl HeldReplay {
-    /// PassOpens a replay of a recording at a position, for a length, both in bytes of the stream: one call. Nothing is seen yet
+    /// Opens a replay of a recording at a position, for a length, both in bytes of the stream: one call. Nothing is seen yet
     /// past the position.
     ///
     /// Refused as that call is, with the pass. Costs what it costs, and waits for those that hold the lock.
@@ -65,7 +65,7 @@ impl HeldReplay {
         length: i64,
     ) -> Result<HeldReplay, Unopened>
         requires { pass.table ≡ A.table }
-        ensures opens { IfOk result (λ held. PassOpens D.life A.opening pass recording position length held.number held.pass) }
+        ensures opens { IfOk result (λ held. OpensReplay D.life A.opening pass recording position length held.number held.pass) }
         ensures held { IfOk result (λ held. held ≡ record {
           pass = held.pass;
           recording = recording;
@@ -126,7 +126,7 @@ impl HeldReplay {
         self.is_active
     }
 
-    /// LooksAtPositions how far the recording is recorded, and whether it is active: one call, which reads nothing.
+    /// Looks how far the recording is recorded, and whether it is active: one call, which reads nothing.
     ///
     /// Refused as that call is. Then nothing more was seen. Waits for those that hold the lock.
     pub fn look<D: Disk, A: Naming, R: Wait>(
@@ -136,7 +136,7 @@ impl HeldReplay {
         archive: &SharedArchive<D, A>,
     ) -> Result<(), Refusal>
         requires { self.old.pass.table ≡ A.table }
-        ensures looks { OnOk result (LooksAtPositions D.life A.opening self.old self.new) }
+        ensures looks { OnOk result (LooksAgain D.life A.opening self.old self.new) }
         ensures refused { IfErr result (SeesNothing D.life A.opening self.old self.new) }
         ensures pass { (self.new.pass.table ≡ self.old.pass.table) × (self.new.pass.number ≡ self.old.pass.number) }
     {
@@ -146,7 +146,7 @@ impl HeldReplay {
         Ok(())
     }
 
-    /// LooksAtPositions, if all that was seen is read up to where the next frame begins, in bytes of the stream.
+    /// Looks, if all that was seen is read up to where the next frame begins, in bytes of the stream.
     ///
     /// Refused as the look is.
     pub(crate) fn look_if_read<D: Disk, A: Naming, R: Wait>(
@@ -190,7 +190,7 @@ impl HeldReplay {
         }
     }
 
-    /// PassOpens a replay of the recording further on, and then closes the one before: two calls. A position that is a multiple of
+    /// Opens a replay of the recording further on, and then closes the one before: two calls. A position that is a multiple of
     /// the term length needs no read.
     ///
     /// Refused as the opening is. Then the replay before it is open still. Waits for those that hold the lock.
@@ -203,7 +203,7 @@ impl HeldReplay {
         length: i64,
     ) -> Result<(), Refusal>
         requires { self.old.pass.table ≡ A.table }
-        ensures moves { OnOk result (MovesHeldOn D.life A.opening self.old self.new position length) }
+        ensures moves { OnOk result (MovesReplayOn D.life A.opening self.old self.new position length) }
         ensures stays { IfErr result (StaysHeld D.life A.opening self.old self.new position length) }
         ensures pass { (self.new.pass.table ≡ self.old.pass.table) × (self.new.pass.number ≡ self.old.pass.number) }
     {
@@ -222,7 +222,7 @@ impl HeldReplay {
         Ok(())
     }
 
-    /// PassCloses the replay, by one call, however that is answered: the pass.
+    /// Closes the replay, by one call, however that is answered: the pass.
     pub fn close<D: Disk, A: Naming, R: Wait>(
         self,
         rt: &R,
@@ -230,7 +230,7 @@ impl HeldReplay {
         archive: &SharedArchive<D, A>,
     ) -> Pass<Made>
         requires { self.pass.table ≡ A.table }
-        ensures closes { PassCloses D.life A.opening self.pass self.number result }
+        ensures closes { ClosesHeld D.life A.opening self.pass self.number result }
         ensures pass { (result.table ≡ self.pass.table) × (result.number ≡ self.pass.number) }
     {
         let HeldReplay {

@@ -9,7 +9,7 @@ ghost use Rattle.replay_core.specs.Pages.{kept};
 ghost use Rattle.recording_reads.specs.Handing.{HandsShown};
 ghost use Rattle.recording_reads.specs.Recording.{layout_of};
 ghost use Rattle.recording_reads.specs.Settled.{seen_to};
-ghost use Rattle.settled_replays.specs.Holding.{PassCloses, SeesNothing};
+ghost use Rattle.settled_replays.specs.Holding.{ClosesHeld, SeesNothing};
 ghost use Rattle.settled_replays.specs.Reading.{KeepsUp, LooksIfRead, RefusesReading, is_ahead, segment_in};
 
 use crate::held::HeldReplay;
@@ -146,7 +146,7 @@ impl<E: Disk + Drop> SettledReplayer<E> {
         self.held.number()
     }
 
-    /// PassCloses the archive's replay, by one call, however that is answered: the pass. No more is read then.
+    /// Closes the archive's replay, by one call, however that is answered: the pass. No more is read then.
     pub fn close<D: Disk, A: Naming, R: Wait>(
         self,
         rt: &R,
@@ -154,7 +154,7 @@ impl<E: Disk + Drop> SettledReplayer<E> {
         archive: &SharedArchive<D, A>,
     ) -> Pass<Made>
         requires { self.held.pass.table ≡ A.table }
-        ensures closes { PassCloses D.life A.opening self.held.pass self.held.number result }
+        ensures closes { ClosesHeld D.life A.opening self.held.pass self.held.number result }
         ensures pass { (result.table ≡ self.held.pass.table) × (result.number ≡ self.held.pass.number) }
     {
         self.held.close(rt, alloc, archive)

@@ -1,4 +1,4 @@
-//! Connections that are sent the frames of a replay: docs/SERVING.md, "Followers"; docs/PROTOCOL.md, "Followers".
+//! Connections that are sent the frames of a replay: docs/SERVING.md, "Consumers"; docs/PROTOCOL.md, "Following a recording".
 
 use crate::client::{Client, Ports, connected};
 use crate::serving::{bound, options, quits, served};

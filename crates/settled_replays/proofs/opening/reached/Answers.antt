@@ -1,7 +1,7 @@
 -- A frame begins there, or the recording ends.
 use Rattle.std.proofs.Common.{rules, inl, inr, sym, subst}
 use Rattle.disk_core.specs.DiskImage.{reads}
-use Rattle.settled_replays.specs.Reading.{FrameIsReached}
+use Rattle.settled_replays.specs.Reading.{ReachesFrame}
 use Rattle.settled_replays.proofs.OpeningLemmas.{reached_by}
 use Rattle.settled_replays.proofs.opening.reached.Goals.{then-position-from-via-then-position-from, then-position-from-via-else-position-from+then-position-seen}
 use Rattle.settled_replays.proofs.opening.reached.Goals as goal
