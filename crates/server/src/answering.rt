@@ -347,7 +347,8 @@ fn polled_replay(event: &Event) -> Option<i64>
             Some(*replay)
         }
         Event::ReplayPollTo { replay, max, limit } => {
-            let _ = (max, limit);
+            let _ = max;
+            let _ = limit;
             Some(*replay)
         }
         _ => None,

@@ -91,7 +91,7 @@ fn serve_beside<
         thread::scope_env(),
         rt,
         |scope| -> Vec<Pass<Made>>
-            requires shared { IsSync R.row }
+            requires shared { IsSync R.row × IsSync O.row }
             requires rest { AllOfTable A.table rest.items }
             requires pass { pass.table ≡ A.table }
             requires room { vec_len rest < vec_capacity rest }
@@ -125,11 +125,11 @@ fn serve_beside<
 }
 
 /// Serves clients or followers by the pass of an index, those of clients first, until the server ends: the pass.
-fn serve_place<D: Disk + Drop, A: Naming, R: Wait + Clock, T: Reporter, O: Openings>(
-    rt: &R,
-    with: &Connections<T>,
+fn serve_place<'x, D: Disk + Drop, A: Naming, R: Wait + Clock, T: Reporter, O: Openings>(
+    rt: &'x R,
+    with: &'x Connections<T>,
     openings: &O,
-    archive: &SharedArchive<D, A>,
+    archive: &'x SharedArchive<D, A>,
     index: usize,
     pass: Pass<Made>,
 ) -> Pass<Made>
