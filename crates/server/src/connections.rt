@@ -209,10 +209,10 @@ pub(crate) fn serve_connections<R: Wait + Clock, T: Reporter, S: Server + Drop>(
 
 /// Serves a connection that was taken, and ends serving if a line quits, but for one of a client that only reads. The connection
 /// that its place goes to, if it was idle for too long and that one waits.
-fn serve_stream<R: Wait + Clock, T: Reporter, S: Server + Drop>(
-    rt: &R,
-    with: &Connections<T>,
-    port: &Port,
+fn serve_stream<'x, R: Wait + Clock, T: Reporter, S: Server + Drop>(
+    rt: &'x R,
+    with: &'x Connections<T>,
+    port: &'x Port,
     stream: TcpStream,
     state: ScriptState<S>,
 ) -> (ScriptState<S>, Option<TcpStream>) {
