@@ -3,7 +3,7 @@
 use crate::conversations::holds;
 use crate::receivers::receiver;
 use crate::recorded::recorder;
-use crate::serving::{Told, bound};
+use crate::serving::{Told, bound, quits};
 use disk_core::MemoryDisk;
 use server::{Happening, Reporter, ResumeNews, ServeOptions, SessionNews, serve_with};
 use std::alloc::Global;
@@ -124,7 +124,14 @@ fn served<R: Threads + Wait + Clock + Net<Listener = TcpListener, Stream = TcpSt
                 Err(_) => None,
             }
         },
-        move || holds(rt, alloc, ports, told, conversation),
+        move || {
+            // A conversation that goes otherwise has not ended the server.
+            let is_held = holds(rt, alloc, ports, told, conversation);
+            if !is_held {
+                quits(rt, alloc, ports);
+            }
+            is_held
+        },
     );
     if is_held {
         Some((back?, heard.said()))
@@ -298,6 +305,7 @@ fn a_publication_out_of_reach_leaves_a_hole(rt: HostRuntime) -> Result<(), Fail>
 const CLIENTS_FIRST: &str = "\
 asks start 1001 7 42 65536 1408 65536 128 1000 c: started 0 0
 casts SETUP_AT_192
+receives STATUS_AT_128
 receives NAK_AT_128
 casts HELLO_AT_128
 awaits positions 0: positions 128 192 -1
@@ -335,6 +343,7 @@ fn a_clients_recording_is_gone_on_with(rt: HostRuntime) -> Result<(), Fail> {
 const CLIENTS_HOLE: &str = "\
 asks start 1001 7 42 65536 1408 65536 128 1000 c: started 0 0
 casts SETUP_AT_192
+receives STATUS_AT_128
 receives NAK_AT_128
 beats HEARTBEAT_AT_192
 beats HEARTBEAT_AT_192
