@@ -1,18 +1,18 @@
 //! The command `serve`: its words, its ports, and the archive of its folder. docs/SERVING.md, "How to run it".
 
-ghost use Rattle.std.specs.Prelude.{◌≡◌, ◌&&◌, ◌≤◌, ◌<◌, ◌↔◌, None, Some, Ok, true, false, IfErr, IfOk, IfSome, IsSomeAnd, IsTrue, MatchResult, option_map};
+ghost use Rattle.std.specs.Prelude.{◌≡◌, ◌&&◌, ◌≤◌, ◌<◌, ◌↔◌, None, Some, IfErr, IfOk, IfSome, IsSomeAnd, IsTrue, MatchResult, option_map};
+ghost use Rattle.disk_core.specs.DiskImage.{reads};
 ghost use Rattle.disk_core.specs.Life.{IsQuiet};
 ghost use Rattle.std.specs.IoError.{error_kind};
 ghost use Rattle.clap.specs.declared.error.ErrorKind.TheVariants.{ValueValidation};
 ghost use Rattle.host_disk.specs.Events.{Given};
 ghost use Rattle.host_disk.specs.HostDisk.{host_life};
-ghost use Rattle.folder_commands.specs.declared.status.Ending.TheVariants.{NoCommand, Failed, Refused};
+ghost use Rattle.folder_commands.specs.declared.status.Ending.TheVariants.{NoCommand, Failed};
 ghost use Rattle.folder_commands.specs.declared.why.Why.TheVariants.{Usage};
 ghost use Rattle.command_line.specs.declared.usage.UsageError.TheVariants.{Name};
-ghost use Rattle.frame_core.specs.declared.refusal.Refusal.TheVariants.{NotCatalogue};
 ghost use Rattle.folder_commands.specs.Folders.{ending_in};
 ghost use Rattle.folder_commands.specs.Left.{ends_with, leaves, left_life, sees};
-ghost use Rattle.folder_commands.specs.Serving.{AreOptions, AsksForCheckpoints, HasBadCheckpoints, HasBadName, HasBadOptions, HasBadSegments, HasBadStreams, HasBadWindow, HasNoConsumersEnd, HasNoEnds, HasSegments, HasWindow, IsAddressReason, HasCatalogue, HasName, IsNoAddress, IsReceiverWindow, IsSegmentLength, IsUnbound, LacksCatalogue, LeavesUncatalogued, RecordsStreams, ServesFolder, ServesOver, checkpoints_reason, is_name_byte, is_recorder_name, segment_reason, streams_reason, window_reason};
+ghost use Rattle.folder_commands.specs.Serving.{AreOptions, AsksForCheckpoints, HasBadCheckpoints, HasBadName, HasBadOptions, HasBadSegments, HasBadStreams, HasBadWindow, HasNoConsumersEnd, HasNoEnds, HasSegments, HasWindow, IsAddressReason, HasCatalogue, HasName, IsNoAddress, IsReceiverWindow, IsSegmentLength, IsUnbound, LacksCatalogue, LeavesUncatalogued, RecordsStreams, ServesFolder, ServesOver, checkpoints_reason, has_bytes, has_catalogue, is_name_byte, is_recorder_name, segment_reason, streams_reason, window_reason};
 
 use crate::exit::Exit;
 use crate::flushing::FolderFlusher;
@@ -169,13 +169,20 @@ fn with_catalogue(disk: HostDisk, must_exist: bool) -> Result<HostDisk, Outcome>
 /// Whether a disk has a catalogue: a bank with bytes.
 fn has_catalogue<D: Disk>(disk: &mut D) -> Result<bool, Fault>
     ensures quiet { IsQuiet (D.life disk.old) (D.life disk.new) }
-    ensures there { result ≡ Ok true → HasCatalogue (D.life disk.old) (D.life disk.new) }
-    ensures lacks { result ≡ Ok false → LacksCatalogue (D.life disk.old) (D.life disk.new) (Refused NotCatalogue) }
+    ensures found { IfOk result (λ has. IsTrue (D.life disk.new).obeys → has ≡ has_catalogue (reads (D.life disk.old).now)) }
 {
-    if disk.len(FileId::BankA)? > 0 {
-        return Ok(true);
-    }
-    Ok(disk.len(FileId::BankB)? > 0)
+    let first = has_bytes(disk, FileId::BankA)?;
+    let second = has_bytes(disk, FileId::BankB)?;
+    Ok(first || second)
+}
+
+/// Whether a file of a disk has bytes.
+fn has_bytes<D: Disk>(disk: &mut D, file: FileId) -> Result<bool, Fault>
+    ensures quiet { IsQuiet (D.life disk.old) (D.life disk.new) }
+    ensures found { IfOk result (λ has. IsTrue (D.life disk.new).obeys → has ≡ has_bytes file (reads (D.life disk.old).now)) }
+{
+    let bytes = disk.len(file)?;
+    Ok(bytes > 0)
 }
 
 /// A random number for a receiver, so that no other one is likely to have it. 0 if the system gives none.
