@@ -183,6 +183,15 @@ impl Client {
         }
     }
 
+    /// Whether the next datagram that comes is one of these.
+    pub(crate) fn receives_either(&self, one: &[u8], other: &[u8]) -> bool {
+        let mut buffer = [0u8; 128];
+        match self.socket.recv_from(&mut buffer) {
+            Ok((count, _)) => &buffer[..count] == one || &buffer[..count] == other,
+            Err(_) => false,
+        }
+    }
+
     /// Whether this datagram is among the next 100 that come.
     pub(crate) fn receives_among(&self, datagram: &[u8]) -> bool {
         for _ in 0..100 {

@@ -3,7 +3,7 @@
 use crate::conversations::holds;
 use crate::receivers::receiver;
 use crate::recorded::recorder;
-use crate::serving::{Told, bound};
+use crate::serving::{Told, bound, quits};
 use disk_core::MemoryDisk;
 use server::{Happening, Reporter, ResumeNews, ServeOptions, SessionNews, serve_with};
 use std::alloc::Global;
@@ -124,7 +124,14 @@ fn served<R: Threads + Wait + Clock + Net<Listener = TcpListener, Stream = TcpSt
                 Err(_) => None,
             }
         },
-        move || holds(rt, alloc, ports, told, conversation),
+        move || {
+            // A conversation that goes otherwise has not ended the server.
+            let is_held = holds(rt, alloc, ports, told, conversation);
+            if !is_held {
+                quits(rt, alloc, ports);
+            }
+            is_held
+        },
     );
     if is_held {
         Some((back?, heard.said()))
@@ -152,10 +159,12 @@ fn first<R: Threads + Wait + Clock + Net<Listener = TcpListener, Stream = TcpStr
     if said == NOTHING { Some(disk) } else { None }
 }
 
-/// The sender has gone on to 192. What lies between is asked for, and nothing else is sent before. The recording goes on.
+/// The sender has gone on to 192. What lies between is asked for, and no status message says before that it was consumed. The
+/// recording goes on.
 const FURTHER: &str = "\
 casts SETUP_AT_192
-receives NAK_AT_128
+receives-either NAK_AT_128 STATUS_AT_128
+receives-among NAK_AT_128
 receives-among STATUS_AT_128
 casts HELLO_AT_128
 awaits positions 0: positions 0 192 -1
@@ -183,7 +192,8 @@ fn a_publication_goes_on_where_its_recording_stands(rt: HostRuntime) -> Result<(
 /// Nothing is sent again for 5 seconds, while heartbeats come. The image leaves, and the next setup frame makes another recording.
 const NO_REPEAT: &str = "\
 casts SETUP_AT_192
-receives NAK_AT_128
+receives-either NAK_AT_128 STATUS_AT_128
+receives-among NAK_AT_128
 beats HEARTBEAT_AT_192
 beats HEARTBEAT_AT_192
 casts HELLO_AT_192
@@ -212,7 +222,8 @@ fn a_sender_that_repeats_nothing_leaves_a_hole(rt: HostRuntime) -> Result<(), Fa
 /// After 3 seconds nothing is heard for 4. Then the time begins anew, so that the image waits on.
 const CUT_OFF: &str = "\
 casts SETUP_AT_192
-receives NAK_AT_128
+receives-either NAK_AT_128 STATUS_AT_128
+receives-among NAK_AT_128
 beats HEARTBEAT_AT_192
 rests
 pauses
@@ -242,7 +253,8 @@ fn a_silent_line_is_no_refusal(rt: HostRuntime) -> Result<(), Fail> {
 /// The server ends between the request and the repeat. The next one asks for the same.
 const ENDED: &str = "\
 casts SETUP_AT_192
-receives NAK_AT_128
+receives-either NAK_AT_128 STATUS_AT_128
+receives-among NAK_AT_128
 awaits images: image 1 7 1001 42 65536 1408 128 0
 follows end 1
 asks quit: bye
@@ -298,7 +310,8 @@ fn a_publication_out_of_reach_leaves_a_hole(rt: HostRuntime) -> Result<(), Fail>
 const CLIENTS_FIRST: &str = "\
 asks start 1001 7 42 65536 1408 65536 128 1000 c: started 0 0
 casts SETUP_AT_192
-receives NAK_AT_128
+receives-either NAK_AT_128 STATUS_AT_128
+receives-among NAK_AT_128
 casts HELLO_AT_128
 awaits positions 0: positions 128 192 -1
 pauses
@@ -335,7 +348,8 @@ fn a_clients_recording_is_gone_on_with(rt: HostRuntime) -> Result<(), Fail> {
 const CLIENTS_HOLE: &str = "\
 asks start 1001 7 42 65536 1408 65536 128 1000 c: started 0 0
 casts SETUP_AT_192
-receives NAK_AT_128
+receives-either NAK_AT_128 STATUS_AT_128
+receives-among NAK_AT_128
 beats HEARTBEAT_AT_192
 beats HEARTBEAT_AT_192
 casts HELLO_AT_192
