@@ -178,8 +178,11 @@ fn is_follow(bytes: &[u8], has_ended: bool) -> bool
 fn ends_soon(bytes: &[u8], has_ended: bool) -> bool
     ensures { result ≡ ends_soon has_ended bytes.now }
 {
-    let front = &bytes[..bytes.len().min(LONGEST_FOLLOW)];
-    front.iter().any(|byte| is_line_end(byte)) || (has_ended && bytes.len() <= LONGEST_FOLLOW)
+    let has_end = bytes
+        .iter()
+        .take(LONGEST_FOLLOW)
+        .any(|byte| is_line_end(byte));
+    has_end || (has_ended && bytes.len() <= LONGEST_FOLLOW)
 }
 
 fn is_line_end(byte: &u8) -> bool
