@@ -13,7 +13,7 @@ use crate::connections::{ClientOptions, Connections, Port};
 use crate::ends::Ends;
 use crate::followers::Followers;
 use crate::listener::{Ending, SharedListener};
-use crate::openings::Openings;
+use crate::openings::{Beside, Openings};
 use crate::options::ServeOptions;
 use crate::place::{CONSUMERS, Places};
 use crate::served::{Served, stuck_by, unopened_stop};
@@ -443,6 +443,8 @@ fn serve_shared<
         flusher,
         ..
     } = with;
+    let beside = Beside { openings: *flusher };
+    let beside = &beside;
     thread::scope(
         thread::scope_env(),
         *rt,
@@ -468,7 +470,7 @@ fn serve_shared<
                     Err(EarlyEnd::Memory),
                 );
             };
-            let clients = serve_clients(*rt, lines, *flusher, archive, clients);
+            let clients = serve_clients(*rt, lines, beside, archive, clients);
             shared.end(socket);
             let is_whole = receiver.join(*rt);
             (
