@@ -484,7 +484,7 @@ fn serve_disk<
     R: Threads + Wait + Clock + Sync,
     D: Disk + Drop + Send,
     T: Reporter + Drop + Send + Sync,
-    F: Flusher + Openings + Sync,
+    F: Flusher + Openings + Send + Sync,
 >(
     net: &R,
     alloc: Global,

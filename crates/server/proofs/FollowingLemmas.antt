@@ -1,5 +1,5 @@
 -- What a follower was sent, one part after another.
-use Rattle.std.proofs.Common.{◌≡◌, ◌∙◌, ◌++◌, ℕ, ℤ, Bool, List, [], ◌∷◌, Option, Some, None, inl, inr, sym, refl, ap, subst}
+use Rattle.std.proofs.Common.{◌≡◌, ◌∙◌, ◌++◌, ℕ, ℤ, Bool, List, [], ◌∷◌, Option, Some, None, inl, inr, rules, sym, refl, ap, subst}
 use Rattle.std.proofs.lemmas.List.{append-nil, append_assoc}
 use Rattle.std.specs.Prelude.{IsTrue, unsigned_abs}
 use Rattle.std.specs.Io.KnownBytes.{Appends}
@@ -18,7 +18,7 @@ use Rattle.settled_replays.specs.Sending.{IsSignBytes, SendsShown, sent_frames}
 use Rattle.server.specs.declared.followed_stream.FollowedStream.{FollowedStream}
 use Rattle.server.specs.declared.pushing.FollowEnd.{FollowEnd}
 use Rattle.server.specs.declared.pushing.FollowEnd.TheVariants as ends
-use Rattle.server.specs.Following.{ArePartsOf, EndsWithSign, IsSent, IsSentOn, IsSentUntil, IsTold, Part, bytes_of_parts, frames, sign}
+use Rattle.server.specs.Following.{ArePartsOf, EndsWithSign, IsSent, IsSentOn, IsSentUntil, IsTold, Part, bytes_of_parts, frames, sign, sign_of}
 
 quiet_then : (a b c : Life) → IsQuiet a b → IsQuiet b c → IsQuiet a c
 quiet_then a b c one two = search rules
@@ -130,3 +130,13 @@ until_then (ends.Failed refusal) stream a b c x y z k l m (xs, one) (ys, two, in
 until_then (ends.Failed refusal) stream a b c x y z k l m (xs, one) (ys, two, inr past) = (xs ++ ys, sent_then stream a b c x y z k l m xs ys one two, inr past)
 until_then ends.Stopped stream a b c x y z k l m (xs, one) (ys, two, so) = (xs ++ ys, sent_then stream a b c x y z k l m xs ys one two, tt)
 until_then ends.Gone stream a b c x y z k l m one two = tt
+
+-- what the end adds
+told_end : (end : FollowEnd) (stream : FollowedStream) (life : Life) (cursor : CursorView) (k l : Option (List ℕ)) → IsTold stream (sign_of end) cursor.replay.next k l → IsSentUntil end stream life life cursor cursor k l
+told_end ends.Done stream life cursor k l told = told_on stream life cursor signs.Ended k l told
+told_end (ends.Failed refusal) stream life cursor k l told = told_on stream life cursor signs.Failed k l told
+told_end ends.Stopped stream life cursor k l told = let t = told_on stream life cursor signs.Failed k l told in (t.0, t.1, tt)
+told_end ends.Gone stream life cursor k l told = tt
+
+pub ended_by : (end : FollowEnd) (stream : FollowedStream) (life : Life) (cursor : CursorView) (told : Sign) (k l : Option (List ℕ)) → told ≡ sign_of end → IsTold stream told cursor.replay.next k l → IsSentUntil end stream life life cursor cursor k l
+ended_by end stream life cursor told k l is told_so = told_end end stream life cursor k l (subst (λ (s : Sign). IsTold stream s cursor.replay.next k l) is told_so)

@@ -51,6 +51,11 @@ IsTold stream told position contents written =
     ((bytes : List ℕ) × IsSignBytes stream.geometry stream.publication told (unsigned_abs position) bytes × Appends contents written bytes)
     ⊎ ((is_in_terms stream.geometry (unsigned_abs position) ≡ false) × (written ≡ contents))
 
+-- what a follower is told whose frames ended so
+abbrev pub sign_of : FollowEnd → Sign
+sign_of ends.Done = signs.Ended
+sign_of end = signs.Failed
+
 -- the last part tells this; a position past the last term is told nothing
 abbrev pub EndsWithSign : FollowedStream → Sign → List Part → ℤ → Type 0
 EndsWithSign stream told parts to =

@@ -9,7 +9,7 @@ use crate::answering::{Controller, NotedArchive};
 use crate::connections::{Connections, Port, serve_connections};
 use crate::consumer::Consumer;
 use crate::following::{Following, follow_by};
-use crate::openings::Openings;
+use crate::openings::{Beside, Openings};
 use crate::place::{Place, Places};
 use crate::unopened::Unopened;
 use archive_lock::{Made, Naming, SharedArchive};
@@ -43,11 +43,11 @@ pub(crate) fn serve_clients<
     A: Naming + Send + Sync,
     R: Threads + Wait + Clock + Sync,
     T: Reporter + Drop + Send + Sync,
-    O: Openings + Sync,
+    O: Openings + Send + Sync,
 >(
     rt: &R,
     with: &Connections<T>,
-    openings: &O,
+    beside: &Beside<'_, O>,
     archive: &SharedArchive<D, A>,
     mut passes: Vec<Pass<Made>>,
 ) -> Vec<Pass<Made>>
@@ -62,7 +62,7 @@ pub(crate) fn serve_clients<
         passes.push_reserved(serve_by(rt, with, &with.control, archive, pass));
         return passes;
     }
-    serve_beside(rt, with, openings, archive, passes, pass)
+    serve_beside(rt, with, beside, archive, passes, pass)
 }
 
 /// Serves clients by a pass in a thread of its own, and by the others beside it.
@@ -72,11 +72,11 @@ fn serve_beside<
     A: Naming + Send + Sync,
     R: Threads + Wait + Clock + Sync,
     T: Reporter + Drop + Send + Sync,
-    O: Openings + Sync,
+    O: Openings + Send + Sync,
 >(
     rt: &R,
     with: &Connections<T>,
-    openings: &O,
+    beside: &Beside<'_, O>,
     archive: &SharedArchive<D, A>,
     rest: Vec<Pass<Made>>,
     pass: Pass<Made>,
@@ -91,7 +91,7 @@ fn serve_beside<
         thread::scope_env(),
         rt,
         |scope| -> Vec<Pass<Made>>
-            requires shared { IsSync R.row × IsSync O.row }
+            requires shared { IsSync R.row }
             requires rest { AllOfTable A.table rest.items }
             requires pass { pass.table ≡ A.table }
             requires room { vec_len rest < vec_capacity rest }
@@ -107,12 +107,12 @@ fn serve_beside<
                 move || -> Pass<Made>
                     requires { pass.table ≡ A.table }
                     ensures { IsBack pass result }
-                { serve_place(rt, with, openings, archive, index, pass) },
+                { serve_place(rt, with, beside, archive, index, pass) },
             );
             if serving.is_err() {
                 lose(rt, with, index);
             }
-            let mut passes = serve_clients(rt, with, openings, archive, rest);
+            let mut passes = serve_clients(rt, with, beside, archive, rest);
             with.followers.end(rt);
             let pass = match serving {
                 Ok(thread) => thread.join(rt),
@@ -128,7 +128,7 @@ fn serve_beside<
 fn serve_place<'x, D: Disk + Drop, A: Naming, R: Wait + Clock, T: Reporter, O: Openings>(
     rt: &'x R,
     with: &'x Connections<T>,
-    openings: &O,
+    beside: &Beside<'_, O>,
     archive: &'x SharedArchive<D, A>,
     index: usize,
     pass: Pass<Made>,
@@ -146,7 +146,7 @@ fn serve_place<'x, D: Disk + Drop, A: Naming, R: Wait + Clock, T: Reporter, O: O
                 with,
                 place,
             };
-            follow_by(&following, openings, pass)
+            follow_by(&following, beside.openings, pass)
         }
     }
 }

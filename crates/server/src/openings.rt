@@ -17,6 +17,12 @@ pub trait Openings {
     fn open_again(&self, alloc: Global) -> Option<Self::Opening>;
 }
 
+/// How those open a disk again who read beside its archive.
+#[derive(Clone, Copy)]
+pub(crate) struct Beside<'a, O> {
+    pub openings: &'a O,
+}
+
 /// What flushes nothing opens nothing either: a disk in memory can't be opened again.
 impl Openings for Unflushed {
     type Opening = MemoryDisk;

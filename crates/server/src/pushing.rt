@@ -1,7 +1,7 @@
 //! What a follower is sent: frames as they are settled, and heartbeats. docs/PROTOCOL.md, "Following a recording".
 
 ghost use Rattle.std.specs.Prelude.{◌≡◌, IsTrue, MatchOption};
-ghost use Rattle.server.specs.Following.{IsSentOn, IsSentUntil, IsTold};
+ghost use Rattle.server.specs.Following.{IsSentOn, IsSentUntil, IsTold, sign_of};
 
 use crate::followed_stream::FollowedStream;
 use crate::follower_connection::FollowerConnection;
@@ -113,11 +113,11 @@ fn send_next<D: Disk, A: Naming, E: Disk + Drop, R: Wait, T: Reporter, W: Write>
         return Some(end_by(stream, replayer, FollowEnd::Failed(refusal), writer));
     }
     keep_up(following, replayer);
-    if sent.as_slice().is_empty() && replayer.is_done() {
-        return Some(end_by(stream, replayer, FollowEnd::Done, writer));
-    }
     if writer.write_all(sent.as_slice()).is_err() {
         return Some(FollowEnd::Gone);
+    }
+    if sent.as_slice().is_empty() && replayer.is_done() {
+        return Some(end_by(stream, replayer, FollowEnd::Done, writer));
     }
     None
 }
@@ -153,14 +153,20 @@ fn end_by<E: Disk + Drop, W: Write>(
     ensures { IsSentUntil result stream.now (E.life replayer.now.reader.disk) (E.life replayer.now.reader.disk)
         replayer.now.reader.cursor replayer.now.reader.cursor (W.contents writer.old) (W.contents writer.new) }
 {
-    let sign = match end {
-        FollowEnd::Done => Sign::Ended,
-        _ => Sign::Failed,
-    };
-    if tell(stream, replayer, sign, writer) {
+    if tell(stream, replayer, sign_of(&end), writer) {
         end
     } else {
         FollowEnd::Gone
+    }
+}
+
+/// What a follower is told whose frames ended so.
+fn sign_of(end: &FollowEnd) -> Sign
+    ensures { result ≡ sign_of end.now }
+{
+    match end {
+        FollowEnd::Done => Sign::Ended,
+        _ => Sign::Failed,
     }
 }
 

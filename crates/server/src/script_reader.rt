@@ -3,6 +3,7 @@
 
 ghost use Rattle.std.specs.Prelude.{◌≡◌, ◌≤◌, ◌==◌, bytes_eq, codes, length, take, vec_len};
 ghost use Rattle.std.specs.List.{list_any};
+ghost use Rattle.std.specs.List.{list_any};
 ghost use Rattle.server.specs.OwnLines.{ends_soon, is_follow, is_images, may_be_follow, may_be_images, may_be_own, may_grow, script_length};
 
 use memchr::memchr;
@@ -178,11 +179,25 @@ fn is_follow(bytes: &[u8], has_ended: bool) -> bool
 fn ends_soon(bytes: &[u8], has_ended: bool) -> bool
     ensures { result ≡ ends_soon has_ended bytes.now }
 {
-    let has_end = bytes
-        .iter()
-        .take(LONGEST_FOLLOW)
-        .any(|byte| is_line_end(byte));
-    has_end || (has_ended && bytes.len() <= LONGEST_FOLLOW)
+    has_line_end(front_of(bytes)) || (has_ended && bytes.len() <= LONGEST_FOLLOW)
+}
+
+/// The first 70 bytes, or all if there are not so many.
+fn front_of(bytes: &[u8]) -> &[u8]
+    ensures { result.now ≡ take 70 bytes.now }
+{
+    if bytes.len() <= LONGEST_FOLLOW {
+        bytes
+    } else {
+        &bytes[..LONGEST_FOLLOW]
+    }
+}
+
+/// Whether a line ends in bytes.
+fn has_line_end(bytes: &[u8]) -> bool
+    ensures { result ≡ list_any (λ b. b == 10) bytes.now }
+{
+    bytes.iter().any(|byte| is_line_end(byte))
 }
 
 fn is_line_end(byte: &u8) -> bool

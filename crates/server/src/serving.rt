@@ -13,7 +13,7 @@ use crate::connections::{ClientOptions, Connections, Port};
 use crate::ends::Ends;
 use crate::followers::Followers;
 use crate::listener::{Ending, SharedListener};
-use crate::openings::Openings;
+use crate::openings::{Beside, Openings};
 use crate::options::ServeOptions;
 use crate::place::{CONSUMERS, Places};
 use crate::served::{Served, stuck_by, unopened_stop};
@@ -172,7 +172,7 @@ pub fn serve_flushing<
     R: Threads + Wait + Clock + Sync,
     D: Disk + Drop + Send,
     T: Reporter + Drop + Send + Sync,
-    F: Flusher + Openings + Sync,
+    F: Flusher + Openings + Send + Sync,
 >(
     rt: &R,
     alloc: Global,
@@ -286,7 +286,7 @@ fn serve_archive<
     R: Threads + Wait + Clock + Sync,
     D: Disk + Drop + Send,
     T: Reporter + Drop + Send + Sync,
-    F: Flusher + Openings + Sync,
+    F: Flusher + Openings + Send + Sync,
 >(
     with: &Serving<'_, R, T, F>,
     tools: Tools,
@@ -345,7 +345,7 @@ fn serve_open<
     R: Threads + Wait + Clock + Sync,
     D: Disk + Drop + Send,
     T: Reporter + Drop + Send + Sync,
-    F: Flusher + Openings + Sync,
+    F: Flusher + Openings + Send + Sync,
 >(
     with: &Serving<'_, R, T, F>,
     tools: Tools,
@@ -367,7 +367,7 @@ fn serve_named<
     A: Naming + Send + Sync,
     R: Threads + Wait + Clock + Sync,
     T: Reporter + Drop + Send + Sync,
-    F: Flusher + Openings + Sync,
+    F: Flusher + Openings + Send + Sync,
 >(
     with: &Serving<'_, R, T, F>,
     tools: Tools,
@@ -394,7 +394,7 @@ fn serve_named<
     };
     let (pass, clients) = parted::<A>(passes, room);
     let mut seats = seat_room.seated::<A>(pass);
-    begin_short(&recording_of(with, &archive), &mut seats, with.begins_short);
+    begin_history(with, &archive, &mut seats);
     with.shared.meter.set_open();
     let (passes, end) = serve_shared(with, tools, &archive, clients, seats);
     (closed(archive, passes, with.is_strict), end)
@@ -417,7 +417,7 @@ fn serve_shared<
     A: Naming + Send + Sync,
     R: Threads + Wait + Clock + Sync,
     T: Reporter + Drop + Send + Sync,
-    F: Flusher + Openings + Sync,
+    F: Flusher + Openings + Send + Sync,
 >(
     with: &Serving<'_, R, T, F>,
     tools: Tools,
@@ -443,6 +443,8 @@ fn serve_shared<
         flusher,
         ..
     } = with;
+    let beside = Beside { openings: *flusher };
+    let beside = &beside;
     thread::scope(
         thread::scope_env(),
         *rt,
@@ -468,7 +470,7 @@ fn serve_shared<
                     Err(EarlyEnd::Memory),
                 );
             };
-            let clients = serve_clients(*rt, lines, *flusher, archive, clients);
+            let clients = serve_clients(*rt, lines, beside, archive, clients);
             shared.end(socket);
             let is_whole = receiver.join(*rt);
             (
@@ -483,7 +485,7 @@ fn serve_shared<
 fn serve_closed<
     R: Threads + Wait + Clock + Sync,
     T: Reporter + Drop + Send + Sync,
-    F: Flusher + Openings + Sync,
+    F: Flusher + Openings + Send + Sync,
 >(with: &Serving<'_, R, T, F>, tools: Tools) -> Result<(), EarlyEnd> {
     let Tools {
         images,
@@ -506,6 +508,15 @@ fn serve_closed<
             receiver.join(with.rt),
         )
     })
+}
+
+/// Notes where an archive stands that was just opened, and makes its history short if that is asked for.
+fn begin_history<D: Disk, A: Naming, R: Wait, T: Reporter, F>(
+    with: &Serving<'_, R, T, F>,
+    archive: &SharedArchive<D, A>,
+    seats: &mut Seats<A>,
+) {
+    begin_short(&recording_of(with, archive), seats, with.begins_short);
 }
 
 /// Records until no more blocks come. The seats.
