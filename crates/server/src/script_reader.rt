@@ -3,7 +3,6 @@
 
 ghost use Rattle.std.specs.Prelude.{◌≡◌, ◌≤◌, ◌==◌, bytes_eq, codes, length, take, vec_len};
 ghost use Rattle.std.specs.List.{list_any};
-ghost use Rattle.std.specs.List.{list_any};
 ghost use Rattle.server.specs.OwnLines.{ends_soon, is_follow, is_images, may_be_follow, may_be_images, may_be_own, may_grow, script_length};
 
 use memchr::memchr;
