@@ -50,7 +50,7 @@ impl<'a, R: Eprint + Clock> Log<'a, R> {
 }
 
 /// Milliseconds since the beginning of 1970. 0 if the clock can't be read, or is before that.
-fn now(clock: &impl Clock) -> i64 {
+pub(crate) fn now(clock: &impl Clock) -> i64 {
     let Ok(now) = SystemTime::now(clock) else {
         return 0;
     };

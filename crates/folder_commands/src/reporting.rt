@@ -6,7 +6,7 @@ use crate::observers::is_same;
 use crate::why::{FaultLine, MetricsFault};
 use archive_commands::Viewer;
 use host_disk::{HostDisk, LastFault};
-use metrics_text::{Measures, print_metrics};
+use metrics_text::{Measures, RecorderAbout, print_metrics};
 use server::{Happening, Reporter};
 use std::alloc::Global;
 use std::fs;
@@ -68,15 +68,22 @@ impl<R: Eprint + Clock> Reporter for ServeReporter<'_, R> {
 pub(crate) struct MetricsFile<'a> {
     rt: HostRuntime,
     name: &'a str,
+    /// Which recorder is measured.
+    about: RecorderAbout<'a>,
     /// The numbers of the causes of its faults that were reported.
     reported: [AtomicI32; REPORTED_CAUSES],
 }
 
 impl<'a> MetricsFile<'a> {
-    pub(crate) fn new(rt: HostRuntime, name: &'a str) -> MetricsFile<'a> {
+    pub(crate) fn new(
+        rt: HostRuntime,
+        name: &'a str,
+        about: RecorderAbout<'a>,
+    ) -> MetricsFile<'a> {
         MetricsFile {
             rt,
             name,
+            about,
             reported: [
                 AtomicI32::new(NO_CAUSE),
                 AtomicI32::new(NO_CAUSE),
@@ -92,7 +99,7 @@ impl<'a> MetricsFile<'a> {
 
     /// Writes the text of measures beside the file, and gives it the file's name.
     fn write(&self, measures: &Measures) -> io::Result<()> {
-        let Ok(text) = print_metrics(self.rt.alloc(), measures) else {
+        let Ok(text) = print_metrics(self.rt.alloc(), &self.about, measures) else {
             return Err(io::Error::from(ErrorKind::OutOfMemory));
         };
         let Ok(part) = format!(in self.rt.alloc(); "{}.part", self.name) else {

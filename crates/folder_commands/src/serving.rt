@@ -17,7 +17,7 @@ ghost use Rattle.folder_commands.specs.Serving.{AreOptions, AsksForCheckpoints, 
 use crate::exit::Exit;
 use crate::flushing::FolderFlusher;
 use crate::hidden::warns_of_hidden_by;
-use crate::log::Log;
+use crate::log::{Log, now};
 use crate::open_folder::closed;
 use crate::outcome::{Left, Outcome};
 use crate::reporting::{MetricsFile, ServeFaults, ServeReporter};
@@ -32,6 +32,7 @@ use flow_control::{INITIAL_WINDOW, LONGEST_WINDOW, SHORTEST_WINDOW};
 use frame_core::Refusal;
 use frame_core::limits::{FRAME_ALIGNMENT, MAX_TERM_LENGTH, MIN_TERM_LENGTH};
 use host_disk::HostDisk;
+use metrics_text::RecorderAbout;
 use server::{
     Ends, Flusher, Openings, Reporter, SEGMENT_LENGTH, ServeOptions, Served, serve_flushing,
 };
@@ -45,6 +46,10 @@ use std::rt::Clock;
 use std::sync::Wait;
 use std::thread::Threads;
 
+/// The program's version, as `--version` begins.
+const PROGRAM_VERSION: &str = "0.1.0";
+/// The version of the catalogues that the program writes: docs/STORAGE.md, "Banks".
+const CATALOGUE_VERSION: &str = "2";
 /// Bytes of a recorder's name at most.
 const LONGEST_NAME: usize = 64;
 /// Streams that `--record` may name at most.
@@ -102,7 +107,9 @@ pub(crate) fn serve<
         Err((exit, disk)) => return Err(unserved(exit, disk)),
     };
     let disk = Watched::new(disk, ServeFaults::new(rt.alloc(), log_of(net, words)));
-    let metrics = metrics_of(rt, words);
+    let mut digits = itoa::Buffer::new();
+    let label = words.name.unwrap_or(digits.format(words.receive));
+    let metrics = metrics_of(rt, words, label);
     let reporter = ServeReporter::new(log_of(net, words), words.is_quiet, metrics);
     let flusher = FolderFlusher::<R, Brand>::new(log_of(net, words), rt, folder);
     let (disk, done) = serve_disk(net, rt.alloc(), ends, disk, &options, reporter, &flusher);
@@ -468,9 +475,20 @@ fn log_of<'a, R: Eprint + Clock>(net: &'a R, words: &ServeWords<'a>) -> Log<'a, 
     Log::new(net, words.name, words.logs_times)
 }
 
-/// The metrics file that the words ask for.
-fn metrics_of<'a>(rt: HostRuntime, words: &ServeWords<'a>) -> Option<MetricsFile<'a>> {
-    words.metrics.map(|name| MetricsFile::new(rt, name))
+/// The metrics file that the words ask for, of a recorder with this label that begins now.
+fn metrics_of<'a>(
+    rt: HostRuntime,
+    words: &ServeWords<'a>,
+    label: &'a str,
+) -> Option<MetricsFile<'a>> {
+    let name = words.metrics?;
+    let about = RecorderAbout {
+        name: label,
+        version: PROGRAM_VERSION,
+        catalogue: CATALOGUE_VERSION,
+        started_micros: now(&rt).unsigned_abs().saturating_mul(1_000),
+    };
+    Some(MetricsFile::new(rt, name, about))
 }
 
 /// Serves the archive of a disk with these options until a line quits, or a strict server can record nothing. The disk comes
