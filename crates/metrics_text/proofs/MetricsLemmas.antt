@@ -4,14 +4,18 @@ use Rattle.std.specs.Prelude.{OnOk}
 use Rattle.std.proofs.lemmas.Result.{on_ok_weaker}
 
 -- all that was put behind the first text was put behind what the first one left
-put_first : (old text next rest end : List ℕ) → next ≡ old ++ text → end ≡ next ++ rest → end ≡ old ++ (text ++ rest)
+pub put_first : (old text next rest end : List ℕ) → next ≡ old ++ text → end ≡ next ++ rest → end ≡ old ++ (text ++ rest)
 put_first old text next rest end is then = then ∙ (ap (λ (left : List ℕ). left ++ rest) is ∙ append_assoc old text rest)
 
 -- nothing was put behind the last one
 put_last : (old text end : List ℕ) → end ≡ old ++ text → end ≡ old ++ (text ++ [])
 put_last old text end is = is ∙ ap (λ (last : List ℕ). old ++ last) (sym (append-nil text))
 
--- three texts, and four
+-- two texts, three, and four
+pub put_two : {T E : Type 0} (r : Result T E) (old a first b second : List ℕ) → first ≡ old ++ a → OnOk r (second ≡ first ++ b)
+    → OnOk r (second ≡ old ++ (a ++ (b ++ [])))
+put_two r old a first b second one = on_ok_weaker r (λ two. put_first old a first (b ++ []) second one (put_last first b second two))
+
 pub put_three : {T E : Type 0} (r : Result T E) (old a first b second c third : List ℕ) → first ≡ old ++ a → second ≡ first ++ b → OnOk r (third ≡ second ++ c)
     → OnOk r (third ≡ old ++ (a ++ (b ++ (c ++ []))))
 put_three r old a first b second c third one two = on_ok_weaker r (λ three. put_first old a first (b ++ (c ++ [])) third one

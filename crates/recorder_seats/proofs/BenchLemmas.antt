@@ -1,8 +1,8 @@
 -- What the writers of a bench raised stays settled among the calls of its pass.
-use Rattle.std.proofs.Common.{◌≡◌, ◌++◌, ◌∙◌, inl, inr, ℕ, zero, suc, ℤ, List, [], ◌∷◌, Option, Some, None, Result, Ok, Err, Bool, true, false, sym, refl, ap, subst, arith, map, length}
-use Rattle.std.specs.Prelude.{◌⊎◌, Contains, IfErr, IfOk, IfSome, if◌then◌else◌, int_le, slice_get, slice_set}
+use Rattle.std.proofs.Common.{◌≡◌, ◌++◌, ◌<◌, ◌∙◌, inl, inr, ℕ, zero, suc, ℤ, List, [], ◌∷◌, Option, Some, None, Result, Ok, Err, Bool, true, false, sym, refl, ap, subst, arith, length, take}
+use Rattle.std.specs.Prelude.{◌⊎◌, Contains, IfErr, IfOk, IfSome, MatchOption, MatchResult, if◌then◌else◌, int_le, slice_get, slice_index_or, slice_set}
 use Rattle.std.specs.List.{zip}
-use Rattle.std.proofs.lemmas.List.{append-nil, length-map}
+use Rattle.std.proofs.lemmas.List.{append-nil}
 use Rattle.std.proofs.lemmas.List.Elements.{Contains-append_left, Contains-append_right}
 use Rattle.frame_core.specs.declared.refusal.Refusal.{Refusal}
 use Rattle.frame_core.specs.declared.refusal.Refusal.TheVariants.{NoMemory}
@@ -21,7 +21,7 @@ use Rattle.archive_lock.specs.Durable.{AnswersSession}
 use Rattle.archive_lock.specs.History.{EndsWithAnswer, IsNoted, Member}
 use Rattle.archive_lock.specs.Several.{EndsWithAnswers}
 use Rattle.recorder_seats.specs.declared.bench.BenchSeat.{BenchSeat}
-use Rattle.recorder_seats.specs.Bench.{AllAreAmong, AreOfBoard, AreUnraised, IsSettledAmong, RaisedAreAmong, changed_by, group_outcome, raised_at, raised_each, session_at, sessions_at}
+use Rattle.recorder_seats.specs.Bench.{AllAreAmong, AreOfBoard, AreUnraised, IsSettledAmong, RaisedAreAmong, changed_seat, group_outcome, raised_at, raised_each, seat_session, sessions_at}
 use Rattle.recorder_seats.specs.Seat.{raised_positions, raised_unless_below, settling_outcome}
 use Rattle.recorder_seats.proofs.SeatLemmas.{each_of, noted_or, one_more}
 
@@ -80,10 +80,10 @@ each_set P (y ∷ ys) zero x all is = (is, all.1)
 each_set P (y ∷ ys) (suc n) x all is = (all.0, each_set P ys n x all.1 is)
 
 -- what each seat has, and one that was changed has too
-each_changed : (P : BenchSeat → Type 0) (change : BenchSeat → BenchSeat) (n : ℕ) (seats : List BenchSeat) → ((seat : BenchSeat) → P seat → P (change seat)) → Each P seats → Each P (changed_by (slice_get seats n) n change seats)
+each_changed : (P : BenchSeat → Type 0) (change : BenchSeat → BenchSeat) (n : ℕ) (seats : List BenchSeat) → ((seat : BenchSeat) → P seat → P (change seat)) → Each P seats → Each P (changed_seat (slice_get seats n) n change seats)
 each_changed P change n seats keeps all = by (slice_get seats n) refl
   where
-    by : (o : Option BenchSeat) → slice_get seats n ≡ o → Each P (changed_by o n change seats)
+    by : (o : Option BenchSeat) → slice_get seats n ≡ o → Each P (changed_seat o n change seats)
     by None is = all
     by (Some seat) is = each_set P seats n (change seat) all (keeps seat (each_get P seats n seat all is))
 
@@ -128,11 +128,15 @@ settled_alone life opening p q session position outcome is answers =
       settles = inl (ends.asked, ends.answered ∙ sym is);
     }
 
-pub alone_raised : {D : Type 0} (life : D → Life) (opening : EngineState) (p q : PassView Made) (n : ℕ) (session position : ℤ) (seats : List BenchSeat) (answer : Result ℤ Refusal) (outcome : Result Reply Refusal) → settling_outcome answer ≡ outcome → answer ≡ Ok position
-    → (IsNoted outcome → EndsWithAnswer life opening p (Settle session) outcome q) → (outcome ≡ Err NoMemory → q ≡ p) → AllAreAmong p seats → AllAreAmong q (raised_at n (Some position) seats)
-alone_raised life opening p q n session position seats answer outcome told is answers unnoted all =
-    raised_among q n (Some position) seats (settled_alone life opening p q session position outcome (ap settling_outcome (sym is) ∙ told) answers)
-    (all_over life opening p q seats (Settle session) outcome answers unnoted all)
+pub alone_raised : {D : Type 0} (life : D → Life) (opening : EngineState) (p q : PassView Made) (n : ℕ) (session : ℤ) (seats news : List BenchSeat) (answer : Result ℤ Refusal) (outcome : Result Reply Refusal) → settling_outcome answer ≡ outcome
+    → (IsNoted outcome → EndsWithAnswer life opening p (Settle session) outcome q) → (outcome ≡ Err NoMemory → q ≡ p) → AllAreAmong p seats → MatchResult answer (λ position. news ≡ raised_at n (Some position) seats) (λ refusal. news ≡ seats) → AllAreAmong q news
+alone_raised life opening p q n session seats news (Ok position) outcome told answers unnoted all raised =
+    subst (AllAreAmong q) (sym raised) (raised_among q n (Some position) seats (settled_alone life opening p q session position outcome told answers) (all_over life opening p q seats (Settle session) outcome answers unnoted all))
+alone_raised life opening p q n session seats news (Err refusal) outcome told answers unnoted all raised = subst (AllAreAmong q) (sym raised) (all_over life opening p q seats (Settle session) outcome answers unnoted all)
+
+length-sessions_at : (indices : List ℕ) (seats : List BenchSeat) → length (sessions_at indices seats) ≡ length indices
+length-sessions_at [] seats = refl
+length-sessions_at (n ∷ ns) seats = ap (λ k. suc k) (length-sessions_at ns seats)
 
 -- each position stands beside its own index
 each_answered : (indices : List ℕ) (sessions : List ℤ) (positions : List (Option ℤ)) (P : ℤ → Type 0) → length sessions ≡ length indices → ((session position : ℤ) → AnswersSession sessions positions session position → P position)
@@ -146,23 +150,24 @@ each_answered (i ∷ is) (n ∷ ns) (o ∷ os) P same answers = (first o answers
     first None told = tt
     first (Some position) told = told n position (inl (refl, refl))
 
-pub together_raised : {D : Type 0} (life : D → Life) (opening : EngineState) (p q : PassView Made) (indices : List ℕ) (seats : List BenchSeat) (positions : List (Option ℤ)) (answer : Result (List (Option ℤ)) Refusal) (outcome : Result Reply Refusal) → group_outcome answer ≡ outcome → answer ≡ Ok positions
-    → (IsNoted outcome → EndsWithAnswer life opening p (SettleAll (sessions_at indices seats)) outcome q) → (outcome ≡ Err NoMemory → q ≡ p) → AllAreAmong p seats → AllAreAmong q (raised_each (zip indices positions) seats)
-together_raised life opening p q indices seats positions answer outcome told is answers unnoted all =
-    let same : Ok (SettledAll positions) ≡ outcome = ap group_outcome (sym is) ∙ told in
-    let ends = answers (subst IsNoted same tt) in
+pub together_raised : {D : Type 0} (life : D → Life) (opening : EngineState) (p q : PassView Made) (indices : List ℕ) (seats news : List BenchSeat) (answer : Result (List (Option ℤ)) Refusal) (outcome : Result Reply Refusal) → group_outcome answer ≡ outcome
+    → (IsNoted outcome → EndsWithAnswer life opening p (SettleAll (sessions_at indices seats)) outcome q) → (outcome ≡ Err NoMemory → q ≡ p) → AllAreAmong p seats → MatchResult answer (λ positions. news ≡ raised_each (zip indices positions) seats) (λ refusal. news ≡ seats)
+    → AllAreAmong q news
+together_raised life opening p q indices seats news (Err refusal) outcome told answers unnoted all raised = subst (AllAreAmong q) (sym raised) (all_over life opening p q seats (SettleAll (sessions_at indices seats)) outcome answers unnoted all)
+together_raised life opening p q indices seats news (Ok positions) outcome told answers unnoted all raised =
+    let ends = answers (subst IsNoted told tt) in
     let own = ends.extends.gains.own in
     let among : Contains q.own ends.call = subst (λ (xs : List Made). Contains xs ends.call) (sym own) (Contains-append_right p.own (ends.call ∷ []) ends.call (0, omega arith, refl)) in
     let sessions = sessions_at indices seats in
-    raised_each_among q (zip indices positions) seats
-    (each_answered indices sessions positions (IsSettledAmong q.own) (length-map indices (session_at seats))
+    subst (AllAreAmong q) (sym raised) (raised_each_among q (zip indices positions) seats
+    (each_answered indices sessions positions (IsSettledAmong q.own) (length-sessions_at indices seats)
     (λ session position a. record {
       call = ends.call;
       among = among;
       session = session;
-      settles = inr (sessions, positions, ends.asked, ends.answered ∙ sym same, a);
+      settles = inr (sessions, positions, ends.asked, ends.answered ∙ sym told, a);
     }))
-    (all_over life opening p q seats (SettleAll sessions) outcome answers unnoted all)
+    (all_over life opening p q seats (SettleAll sessions) outcome answers unnoted all))
 
 -- over several calls, whatever they were answered
 pub all_over_result : {D V : Type 0} (life : D → Life) (opening : EngineState) (p q : PassView Made) (seats : List BenchSeat) (events : List Event) (items : V → List (Result Reply Refusal)) (result : Result V Refusal)
@@ -179,3 +184,25 @@ no_pairs (x ∷ xs) (y ∷ ys) is = by is
     by : (x ∷ xs ≡ []) ⊎ (y ∷ ys ≡ []) → zip (x ∷ xs) (y ∷ ys) ≡ []
     by (inl gone) = absurd cc
     by (inr gone) = absurd cc
+
+-- the session of one seat more
+pub sessions_next : (indices : List ℕ) (seats : List BenchSeat) (i : ℕ) → i < length indices → sessions_at (take (suc i) indices) seats ≡ sessions_at (take i indices) seats ++ seat_session seats (slice_index_or indices i 0) ∷ []
+sessions_next [] seats i below = absurd (omega (arith, below))
+sessions_next (n ∷ ns) seats zero below = refl
+sessions_next (n ∷ ns) seats (suc i) below = ap (λ (sessions : List ℤ). seat_session seats n ∷ sessions) (sessions_next ns seats i (omega (arith, below)))
+
+abbrev the_error : Refusal → Result Reply Refusal
+the_error refusal = Err refusal
+
+-- where the archive stands comes with what the caller is handed
+pub standing_alone : {S : Type 0} (standing : Option S) (answer : Result ℤ Refusal) (outcome : Result Reply Refusal) (Leads : S → Type 0) → settling_outcome answer ≡ outcome → MatchOption standing (outcome ≡ Err NoMemory) (λ s. IsNoted outcome × Leads s)
+    → MatchOption standing (answer ≡ Err NoMemory) (λ s. IsNoted (settling_outcome answer) × Leads s)
+standing_alone (Some s) answer outcome Leads told comes = (subst IsNoted (sym told) comes.0, comes.1)
+standing_alone None (Ok position) outcome Leads told comes = let no_error : Ok (Settled position) ≡ Err NoMemory = told ∙ comes in absurd cc
+standing_alone None (Err refusal) outcome Leads told comes = let same : the_error refusal ≡ the_error NoMemory = told ∙ comes in cc
+
+pub standing_together : {S : Type 0} (standing : Option S) (answer : Result (List (Option ℤ)) Refusal) (outcome : Result Reply Refusal) (Leads : S → Type 0) → group_outcome answer ≡ outcome → MatchOption standing (outcome ≡ Err NoMemory) (λ s. IsNoted outcome × Leads s)
+    → MatchOption standing (answer ≡ Err NoMemory) (λ s. IsNoted (group_outcome answer) × Leads s)
+standing_together (Some s) answer outcome Leads told comes = (subst IsNoted (sym told) comes.0, comes.1)
+standing_together None (Ok positions) outcome Leads told comes = let no_error : Ok (SettledAll positions) ≡ Err NoMemory = told ∙ comes in absurd cc
+standing_together None (Err refusal) outcome Leads told comes = let same : the_error refusal ≡ the_error NoMemory = told ∙ comes in cc

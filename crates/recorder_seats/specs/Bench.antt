@@ -1,6 +1,6 @@
 -- One pass for all recorder sessions of a thread, with a writer for each: docs/ARCHITECTURE.md, "Followers". What a writer raised
 -- was settled by calls of the pass.
-use Rattle.std.specs.Prelude.{◌≡◌, ◌⊎◌, ℕ, ℤ, negsuc, List, [], ◌∷◌, map, Contains, Option, Some, None, slice_get, slice_set, Result, Ok, Err}
+use Rattle.std.specs.Prelude.{◌≡◌, ◌⊎◌, ℕ, ℤ, negsuc, List, [], ◌∷◌, Contains, Option, Some, None, slice_get, slice_set, Result, Ok, Err}
 use Rattle.atomic_table.specs.Seated.{TableId}
 use Rattle.frame_core.specs.declared.refusal.Refusal.{Refusal}
 use Rattle.archive_model.specs.declared.reply.Reply.{Reply}
@@ -59,20 +59,21 @@ session_of None = negsuc 0
 session_of (Some seat) = seat.session
 
 -- the session of the seat at an index
-abbrev pub session_at : List BenchSeat → ℕ → ℤ
-session_at seats n = session_of (slice_get seats n)
+abbrev pub seat_session : List BenchSeat → ℕ → ℤ
+seat_session seats n = session_of (slice_get seats n)
 
 -- of the seats at these indices, in their order
 abbrev pub sessions_at : List ℕ → List BenchSeat → List ℤ
-sessions_at ns seats = map (session_at seats) ns
+sessions_at [] seats = []
+sessions_at (n ∷ ns) seats = seat_session seats n ∷ sessions_at ns seats
 
 -- the seat at an index is changed so, if there is one
-abbrev pub changed_by : Option BenchSeat → ℕ → (BenchSeat → BenchSeat) → List BenchSeat → List BenchSeat
-changed_by None n change seats = seats
-changed_by (Some seat) n change seats = slice_set seats n (change seat)
+abbrev pub changed_seat : Option BenchSeat → ℕ → (BenchSeat → BenchSeat) → List BenchSeat → List BenchSeat
+changed_seat None n change seats = seats
+changed_seat (Some seat) n change seats = slice_set seats n (change seat)
 
 abbrev pub changed_at : ℕ → (BenchSeat → BenchSeat) → List BenchSeat → List BenchSeat
-changed_at n change seats = changed_by (slice_get seats n) n change seats
+changed_at n change seats = changed_seat (slice_get seats n) n change seats
 
 -- it writes for another session
 abbrev pub reseated_at : ℕ → ℤ → List BenchSeat → List BenchSeat

@@ -9,7 +9,7 @@ ghost use Rattle.engine_core.specs.Grouping.{segments_each};
 ghost use Rattle.archive_lock.specs.History.{EndsWithAnswer, IsNoted, LeadsToDesk, SeesDesk};
 ghost use Rattle.archive_lock.specs.Several.{EndsWithAnswers};
 ghost use Rattle.archive_lock.specs.Standing.{standing_of};
-ghost use Rattle.recorder_seats.specs.Bench.{AllAreAmong, AreOfBoard, AreUnraised, group_outcome, raised_at, raised_each, reseated_at, session_at, sessions_at};
+ghost use Rattle.recorder_seats.specs.Bench.{AllAreAmong, AreOfBoard, AreUnraised, group_outcome, raised_at, raised_each, reseated_at, seat_session, sessions_at};
 ghost use Rattle.recorder_seats.specs.Seat.{raised_unless_below, settling_outcome};
 
 use crate::seat::settled_position;
@@ -95,12 +95,12 @@ impl RecorderBench {
     ) -> Result<Reply, Refusal>
         requires { self.old.pass.table ≡ A.table }
         ensures answers { IsNoted result → EndsWithAnswer D.life A.opening self.old.pass
-            (Write (session_at self.old.seats seat) block) result self.new.pass }
+            (Write (seat_session self.old.seats seat) block) result self.new.pass }
         ensures unnoted { IsErrOf result NoMemory → self.new.pass ≡ self.old.pass }
         ensures pass { (self.new.pass.table ≡ self.old.pass.table) × (self.new.pass.number ≡ self.old.pass.number) }
         ensures same { self.new ≡ record self.old { pass = self.new.pass } }
     {
-        let session = session_at(self.seats.as_slice(), seat);
+        let session = seat_session(self.seats.as_slice(), seat);
         archive.call(rt, alloc, &mut self.pass, &Event::Write { session, block })
     }
 
@@ -192,18 +192,19 @@ impl RecorderBench {
         requires pass { self.old.pass.table ≡ A.table }
         requires writers { AreOfBoard board.now self.old.seats }
         ensures answers { IsNoted (settling_outcome result.0) → EndsWithAnswer D.life A.opening self.old.pass
-            (Settle (session_at self.old.seats seat)) (settling_outcome result.0) self.new.pass }
+            (Settle (seat_session self.old.seats seat)) (settling_outcome result.0) self.new.pass }
         ensures unnoted { IsErrOf result.0 NoMemory → self.new.pass ≡ self.old.pass }
         ensures raised { MatchResult result.0
             (λ position. self.new.seats ≡ raised_at seat (Some position) self.old.seats)
             (λ _. self.new.seats ≡ self.old.seats) }
+        ensures writers { AreOfBoard board.now self.new.seats }
         ensures pass { (self.new.pass.table ≡ self.old.pass.table) × (self.new.pass.number ≡ self.old.pass.number) }
         // It stands so by all that the pass then has seen, the settling included.
         ensures standing { MatchOption result.1 (result.0 ≡ Err NoMemory) (λ standing.
             IsNoted (settling_outcome result.0)
             × LeadsToDesk A.opening self.new.pass.seen (λ d. standing ≡ standing_of d)) }
     {
-        let session = session_at(self.seats.as_slice(), seat);
+        let session = seat_session(self.seats.as_slice(), seat);
         let (outcome, standing) = archive.call_with_standing(
             rt,
             alloc,
@@ -211,9 +212,7 @@ impl RecorderBench {
             &Event::Settle { session },
         );
         let answer = settled_position(outcome);
-        if let Ok(position) = answer {
-            raise_at(&mut self.seats, board, seat, Some(position));
-        }
+        raise_answered(&mut self.seats, board, seat, answer);
         (answer, standing)
     }
 
@@ -237,6 +236,7 @@ impl RecorderBench {
         ensures raised { MatchResult result.0
             (λ positions. self.new.seats ≡ raised_each (zip seats.now positions) self.old.seats)
             (λ _. self.new.seats ≡ self.old.seats) }
+        ensures writers { AreOfBoard board.now self.new.seats }
         ensures pass { (self.new.pass.table ≡ self.old.pass.table) × (self.new.pass.number ≡ self.old.pass.number) }
         ensures standing { MatchOption result.1 (result.0 ≡ Err NoMemory) (λ standing.
             IsNoted (group_outcome result.0)
@@ -252,16 +252,14 @@ impl RecorderBench {
             &Event::SettleAll { sessions },
         );
         let answer = settled_positions(outcome);
-        if let Ok(positions) = &answer {
-            raise_each(&mut self.seats, board, seats, positions.as_slice());
-        }
+        raise_all_answered(&mut self.seats, board, seats, &answer);
         (answer, standing)
     }
 }
 
 /// The session of the seat at an index. A number that no session has where there is none.
-fn session_at(seats: &[BenchSeat], index: usize) -> i64
-    ensures { result ≡ session_at seats.now index }
+fn seat_session(seats: &[BenchSeat], index: usize) -> i64
+    ensures { result ≡ seat_session seats.now index }
 {
     match seats.get(index) {
         Some(seat) => seat.session,
@@ -270,6 +268,7 @@ fn session_at(seats: &[BenchSeat], index: usize) -> i64
 }
 
 /// The sessions of the seats at some indices, in their order.
+#[tactic(auto, using(crate::proofs::BenchLemmas::sessions_next))]
 fn sessions_at(
     alloc: Global,
     seats: &[BenchSeat],
@@ -279,9 +278,45 @@ fn sessions_at(
 {
     let mut sessions = Items::new(alloc);
     for index in indices {
-        sessions.push(session_at(seats, *index))?;
+        sessions.push(seat_session(seats, *index))?;
     }
     Ok(sessions)
+}
+
+/// Raises the slot of the seat at an index to the position that a settling was answered, if there are both.
+fn raise_answered(
+    seats: &mut Vec<BenchSeat>,
+    board: &Board,
+    index: usize,
+    answer: Result<i64, Refusal>,
+)
+    requires { AreOfBoard board.now seats.old.items }
+    ensures raised { MatchResult answer
+        (λ position. seats.new.items ≡ raised_at index (Some position) seats.old.items)
+        (λ _. seats.new.items ≡ seats.old.items) }
+    ensures board { AreOfBoard board.now seats.new.items }
+{
+    if let Ok(position) = answer {
+        raise_to(seats, board, index, &position);
+    }
+}
+
+/// Raises the slots of the seats at some indices to the positions that a settling was answered, each to its own.
+fn raise_all_answered(
+    seats: &mut Vec<BenchSeat>,
+    board: &Board,
+    indices: &[usize],
+    answer: &Result<Items<Option<i64>>, Refusal>,
+)
+    requires { AreOfBoard board.now seats.old.items }
+    ensures raised { MatchResult answer.now
+        (λ positions. seats.new.items ≡ raised_each (zip indices.now positions) seats.old.items)
+        (λ _. seats.new.items ≡ seats.old.items) }
+    ensures board { AreOfBoard board.now seats.new.items }
+{
+    if let Ok(positions) = answer {
+        raise_each(seats, board, indices, positions.as_slice());
+    }
 }
 
 /// Raises the slots of the seats at some indices, each to its own position, if there is one.
@@ -292,7 +327,8 @@ fn raise_each(
     positions: &[Option<i64>],
 )
     requires { AreOfBoard board.now seats.old.items }
-    ensures { seats.new.items ≡ raised_each (zip indices.now positions.now) seats.old.items }
+    ensures raised { seats.new.items ≡ raised_each (zip indices.now positions.now) seats.old.items }
+    ensures board { AreOfBoard board.now seats.new.items }
 {
     for (index, position) in indices.iter().zip(positions) {
         raise_at(seats, board, *index, *position);
@@ -305,11 +341,20 @@ fn raise_at(seats: &mut Vec<BenchSeat>, board: &Board, index: usize, position: O
     ensures raised { seats.new.items ≡ raised_at index position seats.old.items }
     ensures board { AreOfBoard board.now seats.new.items }
 {
-    let Some(position) = position else {
-        return;
-    };
+    if let Some(position) = position {
+        raise_to(seats, board, index, &position);
+    }
+}
+
+/// Raises the slot of the seat at an index to a position, if there is such a seat.
+#[tactic(auto, using(crate::proofs::BenchLemmas::board_raised))]
+fn raise_to(seats: &mut Vec<BenchSeat>, board: &Board, index: usize, position: &i64)
+    requires { AreOfBoard board.now seats.old.items }
+    ensures raised { seats.new.items ≡ raised_at index (Some position.now) seats.old.items }
+    ensures board { AreOfBoard board.now seats.new.items }
+{
     if let Some(seat) = seats.get_mut(index) {
-        raise(&mut seat.writer, board, position);
+        raise(&mut seat.writer, board, *position);
     }
 }
 

@@ -4,7 +4,6 @@ use Rattle.std.specs.Prelude.{MatchOption}
 use Rattle.std.specs.List.{position_or_len}
 use Rattle.std.specs.Str.{bytes_eq}
 use Rattle.std.proofs.Math.Seq.{take-length}
-use Rattle.std.proofs.lemmas.Bool.{not-true}
 use Rattle.std.proofs.lemmas.List.{take-append-le}
 use Rattle.std.proofs.lemmas.List.Folds.{length-prefix_len, prefix_len-append}
 use Rattle.std.proofs.lemmas.List.Sums.{position_or_len_is, prefix_len-le-length}
@@ -15,15 +14,19 @@ use Rattle.server.specs.ConsumerLines.{first_word, is_consumer_word, is_for_cons
 blank : ℕ → Bool
 blank b = b == 32
 
+no_true : (b : Bool) → (b ≡ true → ⊥) → b ≡ false
+no_true false no = refl
+no_true true no = absurd (no refl)
+
 -- ---- the first word
 
 -- the first blank ends it
 pub word_before : (line : List ℕ) (r : Option ℕ) → IsFirstByte (is_byte 32) line r → MatchOption r (first_word line ≡ line) (λ at. first_word line ≡ take at line)
 word_before line None none =
-    let no_blank : position_or_len blank line ≡ length line = position_or_len_is blank line (length line) 0 (omega arith) (λ k below. not-true _ (none k (omega arith) below)) (λ below. absurd (omega (arith, below))) in
+    let no_blank : position_or_len blank line ≡ length line = position_or_len_is blank line (length line) 0 (omega arith) (λ k below. no_true _ (none k (omega arith) below)) (λ below. absurd (omega (arith, below))) in
     ap (λ k. take k line) no_blank ∙ take-length line
 word_before line (Some at) first =
-    ap (λ k. take k line) (position_or_len_is blank line at 0 (omega (arith, (first.0).high)) (λ k below. not-true _ ((first.0).before k (omega arith) below)) (λ within. first.1))
+    ap (λ k. take k line) (position_or_len_is blank line at 0 (omega (arith, (first.0).high)) (λ k below. no_true _ ((first.0).before k (omega arith) below)) (λ within. first.1))
 
 -- where it ends, it ends whatever follows
 word_stays : (front rest : List ℕ) → position_or_len blank front < length front → first_word (front ++ rest) ≡ first_word front

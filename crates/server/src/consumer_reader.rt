@@ -121,13 +121,21 @@ impl<I: Read> ConsumerReader<I> {
             self.begin();
         }
         match self.course {
-            Course::Passes if self.from < self.to => Some(self.pass(buf)),
-            Course::Skips if self.skip() => {
-                buf[0] = b'\n';
-                Some(1)
-            }
-            _ => None,
+            Course::Begins => None,
+            Course::Passes if self.from == self.to => None,
+            Course::Passes => Some(self.pass(buf)),
+            Course::Skips => self.skipped(buf),
         }
+    }
+
+    /// Passes over bytes of the line up to its end, and gives an empty line there.
+    fn skipped(&mut self, buf: &mut [u8]) -> Option<usize> {
+        if !self.skip() {
+            return None;
+        }
+        let first = buf.first_mut()?;
+        *first = b'\n';
+        Some(1)
     }
 }
 
@@ -161,7 +169,7 @@ fn line_length(bytes: &[u8]) -> usize
 
 /// Whether a port of consumers answers a line that begins with these bytes, if that is known: all of it is there, or its first
 /// word is, or more than the longest word.
-#[tactic(auto, using(crate::proofs::ConsumerLemmas::consuming))]
+#[tactic(auto, using(crate::proofs::ConsumerLemmas::stays))]
 fn decided(front: &[u8], is_whole: bool) -> Option<bool>
     ensures decided { IsDecided is_whole front.now result }
     ensures short { IsNone result → length front.now < 10 }
@@ -181,6 +189,7 @@ fn is_for_consumers(line: &[u8]) -> bool
 }
 
 /// The first word of a line: its bytes before the first blank, or all of them.
+#[tactic(auto, using(crate::proofs::ConsumerLemmas::word_before))]
 fn first_word(line: &[u8]) -> &[u8]
     ensures { result.now ≡ first_word line.now }
 {

@@ -142,7 +142,8 @@ impl<'a, R: Wait + Clock, T: Reporter> Reception<'a, R, T> {
         }
         match outcome {
             DatagramOutcome::Joined { place, point } => {
-                self.note_joined(point, self.end.sender(), self.resumes(&point, now));
+                let (sender, resumes) = (self.end.sender(), self.resumes(&point, now));
+                self.note_joined(point, sender, resumes);
                 outcome = self.joined_outcome(place, outcome, now);
             }
             DatagramOutcome::Frames { place, is_lost } => self.note_frames(place, is_lost),

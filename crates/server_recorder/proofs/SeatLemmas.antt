@@ -9,7 +9,7 @@ use Rattle.std.proofs.lemmas.List.{length-append, reverse-append}
 use Rattle.atomic_table.specs.Seated.{TableId}
 use Rattle.position_board.specs.Positions.{Published, last_position, new_writers, with_position}
 use Rattle.recorder_seats.specs.declared.bench.BenchSeat.{BenchSeat}
-use Rattle.recorder_seats.specs.Bench.{AreOfBoard, AreUnraised, BenchView, changed_by, raised_at, raised_each, reseated_at}
+use Rattle.recorder_seats.specs.Bench.{AreOfBoard, AreUnraised, BenchView, changed_seat, raised_at, raised_each, reseated_at}
 use Rattle.recorder_seats.specs.Seat.{raised_unless_below}
 use Rattle.frame_core.specs.declared.refusal.Refusal.{Refusal}
 use Rattle.call_history.specs.Passes.{AllOfTable, HasEach, has_number, new_pass, new_passes}
@@ -121,10 +121,10 @@ seats_set board change keeps n [] i x gets all = tt
 seats_set board change keeps n (y ∷ ys) zero x gets all = let is : y ≡ x = cc in (subst (λ (z : BenchSeat). IsSeat board n (change z)) is (keeps n y all.0), all.1)
 seats_set board change keeps n (y ∷ ys) (suc i) x gets all = (all.0, seats_set board change keeps (n + 1) ys i x gets all.1)
 
-seats_changed : (board : TableId) (change : BenchSeat → BenchSeat) → ((n : ℕ) (seat : BenchSeat) → IsSeat board n seat → IsSeat board n (change seat)) → (i : ℕ) (xs : List BenchSeat) → AreSeats board 0 xs → AreSeats board 0 (changed_by (slice_get xs i) i change xs)
+seats_changed : (board : TableId) (change : BenchSeat → BenchSeat) → ((n : ℕ) (seat : BenchSeat) → IsSeat board n seat → IsSeat board n (change seat)) → (i : ℕ) (xs : List BenchSeat) → AreSeats board 0 xs → AreSeats board 0 (changed_seat (slice_get xs i) i change xs)
 seats_changed board change keeps i xs all = by (slice_get xs i) refl
   where
-    by : (o : Option BenchSeat) → slice_get xs i ≡ o → AreSeats board 0 (changed_by o i change xs)
+    by : (o : Option BenchSeat) → slice_get xs i ≡ o → AreSeats board 0 (changed_seat o i change xs)
     by None is = all
     by (Some seat) is = seats_set board change keeps 0 xs i seat is all
 
@@ -156,6 +156,14 @@ bench_called history board old new was same pass = record {
   table = pass.0 ∙ was.table;
   number = pass.1 ∙ was.number;
   seats = subst (AreSeats board 0) (sym (ap (λ (b : BenchView). b.seats) same)) was.seats;
+}
+
+-- with another session at a seat
+pub bench_reseated : (history board : TableId) (old new : BenchView) (i : ℕ) (session : ℤ) → IsBench history board old → new ≡ record old { seats = reseated_at i session old.seats } → IsBench history board new
+bench_reseated history board old new i session was is = record {
+  table = ap (λ (b : BenchView). b.pass.table) is ∙ was.table;
+  number = ap (λ (b : BenchView). b.pass.number) is ∙ was.number;
+  seats = subst (AreSeats board 0) (sym (ap (λ (b : BenchView). b.seats) is)) (seats_reseated board i session old.seats was.seats);
 }
 
 -- over a look

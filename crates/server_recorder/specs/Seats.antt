@@ -18,7 +18,7 @@ use Rattle.archive_lock.specs.declared.standing.Standing.{Standing}
 use Rattle.archive_lock.specs.History.{EndsWithAnswer, IsNoted, LeadsToDesk, SeesDesk}
 use Rattle.archive_lock.specs.Standing.{standing_of}
 use Rattle.recorder_seats.specs.declared.bench.BenchSeat.{BenchSeat}
-use Rattle.recorder_seats.specs.Bench.{BenchView, group_outcome, raised_at, raised_each, session_at, sessions_at}
+use Rattle.recorder_seats.specs.Bench.{BenchView, group_outcome, raised_at, raised_each, seat_session, sessions_at}
 use Rattle.recorder_seats.specs.Seat.{raised_positions, settling_outcome}
 
 -- ---- seats
@@ -84,7 +84,7 @@ module _ {D : Type 0} (life : D → Life) (opening : EngineState) where
 
   -- the session of a seat is settled, and its slot raised to what was answered
   pub record SettlesSession (seat : ℕ) (old : SeatsView) (result : Result ℤ Refusal × Option Standing) (new : SeatsView) : Type 0 where
-    pub answers : IsNoted (settling_outcome result.0) → EndsWithAnswer life opening old.bench.pass (Settle (session_at old.bench.seats seat)) (settling_outcome result.0) new.bench.pass
+    pub answers : IsNoted (settling_outcome result.0) → EndsWithAnswer life opening old.bench.pass (Settle (seat_session old.bench.seats seat)) (settling_outcome result.0) new.bench.pass
     pub unnoted : IsErrOf result.0 NoMemory → new.bench.pass ≡ old.bench.pass
     pub standing : ComesWithStanding opening result.0 (settling_outcome result.0) new.bench.pass result.1
     pub raised : MatchResult result.0 (λ position. new.bench.seats ≡ raised_at seat (Some position) old.bench.seats) (λ _. new.bench.seats ≡ old.bench.seats)

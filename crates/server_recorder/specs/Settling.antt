@@ -87,9 +87,9 @@ with_more session more None = min more (2 ^ 64 - 1)
 with_more session more (Some w) = if int_eq w.session session then min (w.bytes + more) (2 ^ 64 - 1) else min more (2 ^ 64 - 1)
 
 -- what it wrote has waited for at least half as long as a block may
-abbrev pub is_near : ℕ → Option ℕ → Option Written → Bool
-is_near every time None = false
-is_near every time (Some w) = has_lasted (every - every / 2) (elapsed w.since time)
+abbrev pub is_half_due : ℕ → Option ℕ → Option Written → Bool
+is_half_due every time None = false
+is_half_due every time (Some w) = has_lasted (every - every / 2) (elapsed w.since time)
 
 -- ---- when the first one is due
 

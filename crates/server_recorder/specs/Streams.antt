@@ -6,7 +6,7 @@ use Rattle.archive_model.specs.declared.command.StartFields.{StartFields}
 use Rattle.archive_model.specs.declared.descriptor.Descriptor.{Descriptor}
 use Rattle.stream_pairs.specs.declared.points.StreamPoint.{StreamPoint}
 use Rattle.stream_pairs.specs.Pairs.{is_point}
-use Rattle.server_state.specs.Resuming.{is_same_stream, is_within_reach, may_resume}
+use Rattle.server_state.specs.Resuming.{is_one_stream, is_within_reach, may_resume}
 use Rattle.server_state.specs.declared.resuming.Resumes.{Resumes}
 use Rattle.server_state.specs.declared.resuming.Stand.{Stand}
 use Rattle.server_recorder.specs.declared.streams.Finding.{Finding}
@@ -45,7 +45,7 @@ is_passed_over p d = int_eq d.start_position d.stop_position && not (is_within_r
 
 -- a recording of the publication says where it stands
 abbrev pub tells_stand : StreamPoint → Descriptor → Bool
-tells_stand p d = is_same_stream p (stop_point d) && not (is_passed_over p d)
+tells_stand p d = is_one_stream p (stop_point d) && not (is_passed_over p d)
 
 abbrev pub told_stand : StreamPoint → Descriptor → Option Stand
 told_stand p d = if tells_stand p d then Some (record { recording = d.recording; position = d.stop_position }) else None
@@ -78,8 +78,8 @@ abbrev pub found_by : Option ℤ → Resumes → StreamPoint → List Descriptor
 found_by (Some recording) resumes p ds = Extends recording
 found_by None resumes p ds = if may_resume resumes then found_before (last_resumable p ds) else Begins
 
-abbrev pub finding : Resumes → StreamPoint → List Descriptor → Finding
-finding resumes p ds = found_by (last_continued p ds) resumes p ds
+abbrev pub finding_for : Resumes → StreamPoint → List Descriptor → Finding
+finding_for resumes p ds = found_by (last_continued p ds) resumes p ds
 
 -- the last recording of its publication, if that was stopped: a recording that begins elsewhere leaves a hole after it, or goes back before its end
 abbrev pub stopped_stand : Option Stand → Option Stand

@@ -57,7 +57,7 @@ fn due_seats(settling: &Settling, block_waits: bool, taken: &Taken) -> [bool; FE
 /// Adds the sessions that are near to be due.
 fn add_near(settling: &Settling, due: &mut [bool; FED_SESSIONS]) {
     for seat in 0..FED_SESSIONS {
-        if settling.is_near(seat) {
+        if settling.is_half_due(seat) {
             due[seat] = true;
         }
     }

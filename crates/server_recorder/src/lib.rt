@@ -10,6 +10,7 @@ mod seats;
 mod settling;
 mod stopping;
 mod streams;
+mod tokens;
 mod writing;
 
 pub use checkpoints::{begin_short, is_begun, note_checkpoint};

@@ -6,7 +6,8 @@ ghost use Rattle.server_recorder.specs.Seats.{MakesCall};
 use crate::checkpoints::keep_short;
 use crate::recording::Recording;
 use crate::seats::Seats;
-use crate::streams::{Finding, extend_fields, finding, stand_before, start_fields};
+use crate::streams::{Finding, extend_fields, finding_for, stand_before, start_fields};
+use crate::tokens::Tokens;
 use archive_lock::{Naming, Standing};
 use archive_model::{Channel, Descriptor, Reply, SourceIdentity};
 use control_core::{Event, Request};
@@ -15,14 +16,14 @@ use frame_core::limits::MAX_LIST;
 use frame_core::{Items, Refusal};
 use server_state::{
     Found, Happening, HoleCause, ImageNews, Reporter, ResumeNews, Resumes, Stand, Taken,
-    WaitingImage, reach,
+    WaitingImage, resume_reach,
 };
 use std::alloc::{AllocError, Global};
 use std::net::SocketAddr;
 use std::rt::Clock;
 use std::sync::Wait;
 use std::time::SystemTime;
-use stream_pairs::{MAX_IMAGES, Place, StreamPoint};
+use stream_pairs::{ImageNumber, MAX_IMAGES, Place, StreamPoint};
 
 /// Milliseconds of an hour.
 const HOUR: u64 = 3_600_000;
@@ -37,6 +38,10 @@ pub struct OwnRecordings {
     refused: [Option<Refusal>; MAX_IMAGES],
     /// When it was reported last that there are as many recordings as there may be, in milliseconds.
     full_at: Option<u64>,
+    /// How many recordings may begin.
+    tokens: Tokens,
+    /// By place the image that waits since no recording may begin, as it was reported last.
+    late: [Option<ImageNumber>; MAX_IMAGES],
 }
 
 impl OwnRecordings {
@@ -47,6 +52,8 @@ impl OwnRecordings {
           recordings = replicate 64 None;
           refused = replicate 64 None;
           full_at = None;
+          tokens = record { left = 64; since = 0 };
+          late = replicate 64 None;
         } }
     {
         OwnRecordings {
@@ -54,6 +61,8 @@ impl OwnRecordings {
             recordings: [None; MAX_IMAGES],
             refused: [None; MAX_IMAGES],
             full_at: None,
+            tokens: Tokens::new(),
+            late: [None; MAX_IMAGES],
         }
     }
 
@@ -87,8 +96,16 @@ impl OwnRecordings {
         let Some(image) = with.shared.waiting(with.rt, place) else {
             return;
         };
-        match open(with, seats, &image, self.segment_length) {
-            Ok(Opened::Recorded { recording, before }) => {
+        let may_begin = self.may_begin(now);
+        match open(with, seats, &image, may_begin, self.segment_length) {
+            Ok(
+                Opened::Recorded {
+                    recording,
+                    is_new,
+                    before,
+                },
+            ) => {
+                self.note_begun(is_new, now);
                 self.set(place, Some(recording), None);
                 found(with, &image, Found::Recorded);
                 with.shared.report(&Happening::Image(ImageNews::Recorded {
@@ -98,10 +115,44 @@ impl OwnRecordings {
                 report_before(with, &image, before);
             }
             Ok(Opened::StandsBefore(stand)) => found(with, &image, Found::Stands(stand)),
+            Ok(Opened::MayNotBegin) => self.report_late(with, &image),
             Err(cause) => {
                 with.shared.found(with.rt, &image.key, Found::Refused);
                 self.report(with, place, &image, cause, now);
             }
+        }
+    }
+
+    /// Whether a recording may begin now. Without a clock it may.
+    fn may_begin(&self, now: Option<u64>) -> bool {
+        match now {
+            Some(now) => self.tokens.has_one(now),
+            None => true,
+        }
+    }
+
+    /// A recording was opened; a new one counts.
+    fn note_begun(&mut self, is_new: bool, now: Option<u64>) {
+        if let Some(now) = now {
+            if is_new {
+                self.tokens.take(now);
+            }
+        }
+    }
+
+    /// Reports an image for which no recording may begin yet, once.
+    fn report_late<D: Disk, A: Naming, R: Wait + Clock, T: Reporter>(
+        &mut self,
+        with: &Recording<'_, D, A, R, T>,
+        image: &WaitingImage,
+    ) {
+        let place = image.key.place;
+        let number = Some(image.key.number);
+        if place < MAX_IMAGES && self.late[place] != number {
+            self.late[place] = number;
+            let image = image.key.number;
+            with.shared
+                .report(&Happening::Image(ImageNews::TooManyBegun { image }));
         }
     }
 
@@ -193,36 +244,47 @@ enum Opened {
     Recorded {
         /// Its id.
         recording: i64,
+        /// Whether it is a new one.
+        is_new: bool,
         /// Where the last recording of its publication ends, if this is a new one.
         before: Option<Stand>,
     },
     /// The last recording of its publication stands before its setup frame.
     StandsBefore(Stand),
+    /// A recording would begin, but as many have begun as may within a short time.
+    MayNotBegin,
 }
 
-/// Opens a session for an image that waits, unless it is to begin anew before.
+/// Opens a session for an image that waits, unless it is to begin anew before, or no recording may begin.
 fn open<D: Disk, A: Naming, R: Wait + Clock, T: Reporter>(
     with: &Recording<'_, D, A, R, T>,
     seats: &mut Seats<A>,
     image: &WaitingImage,
+    may_begin: bool,
     segment_length: i32,
 ) -> Result<Opened, Refusal> {
     let point = &image.point;
     let recordings = listed(with, seats)?;
-    match finding(recordings.as_slice(), point, image.resumes) {
+    match finding_for(recordings.as_slice(), point, image.resumes) {
         Finding::Extends(recording) => {
             let fields = extend_fields(recording, point);
             call(with, seats, &Event::Ask(Request::Extend(fields)))?;
             Ok(Opened::Recorded {
                 recording,
+                is_new: false,
                 before: None,
             })
         }
         Finding::StandsBefore(stand) => Ok(Opened::StandsBefore(stand)),
+        Finding::Begins if !may_begin => Ok(Opened::MayNotBegin),
         Finding::Begins => {
             let before = stand_before(recordings.as_slice(), point);
             let recording = start(with, seats, point, image.sender, segment_length)?;
-            Ok(Opened::Recorded { recording, before })
+            Ok(Opened::Recorded {
+                recording,
+                is_new: true,
+                before,
+            })
         }
     }
 }
@@ -284,7 +346,7 @@ fn report_before<D: Disk, A: Naming, R: Wait, T: Reporter>(
 /// Why a publication does not go on where its last recording ends.
 fn hole_cause(image: &WaitingImage) -> HoleCause {
     match image.resumes {
-        Resumes::Yes => HoleCause::TooFar(reach(&image.point.geometry)),
+        Resumes::Yes => HoleCause::TooFar(resume_reach(&image.point.geometry)),
         Resumes::NoRepeat => HoleCause::NoRepeat,
         Resumes::WasLost => HoleCause::WasLost,
     }

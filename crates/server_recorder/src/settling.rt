@@ -3,7 +3,7 @@
 //! A time is in milliseconds since the recording thread began. It is None if the clock could not be read.
 
 ghost use Rattle.std.specs.Prelude.{◌≡◌, None, false, nat_le, replicate, slice_set, true};
-ghost use Rattle.server_recorder.specs.Settling.{PassesFirst, after_block, session_settled, elapsed, is_due, is_enough, is_full, is_near, is_overdue, later, nothing_written, pace_after, session_at, some_overdue, sooner, with_more};
+ghost use Rattle.server_recorder.specs.Settling.{PassesFirst, after_block, session_settled, elapsed, is_due, is_enough, is_full, is_half_due, is_overdue, later, nothing_written, pace_after, session_at, some_overdue, sooner, with_more};
 
 use stream_pairs::{FED_SESSIONS, Place, Seat};
 
@@ -157,8 +157,8 @@ impl Settling {
     }
 
     /// Whether what the session at a seat wrote has waited for at least half as long as a block may.
-    pub fn is_near(&self, seat: Seat) -> bool
-        ensures { result ≡ is_near self.now.every self.now.time (session_at seat self.now.sessions).written }
+    pub fn is_half_due(&self, seat: Seat) -> bool
+        ensures { result ≡ is_half_due self.now.every self.now.time (session_at seat self.now.sessions).written }
     {
         let Some(written) = self.written(seat) else {
             return false;

@@ -2,11 +2,11 @@
 //! asked".
 
 ghost use Rattle.std.specs.Prelude.{◌≡◌};
-ghost use Rattle.server_recorder.specs.Streams.{continued, continues, extend_fields, finding, found_before, is_passed_over, last_continued, last_resumable, last_stand, or_else, resumed_stand, segment_of, stand_before, stand_or_else, start_fields, stop_point, stopped_stand, tells_stand, told_stand};
+ghost use Rattle.server_recorder.specs.Streams.{continued, continues, extend_fields, finding_for, found_before, is_passed_over, last_continued, last_resumable, last_stand, or_else, resumed_stand, segment_of, stand_before, stand_or_else, start_fields, stop_point, stopped_stand, tells_stand, told_stand};
 
 use archive_model::{Channel, Descriptor, ExtendFields, SourceIdentity, StartFields};
 use frame_core::{Geometry, Publication};
-use server_state::{Resumes, Stand, is_same_stream, is_within_reach};
+use server_state::{Resumes, Stand, is_one_stream, is_within_reach};
 use stream_pairs::StreamPoint;
 
 /// The recording that a publication goes on with which joined at a point, of recordings by rising id: the last that has its
@@ -82,8 +82,12 @@ pub(crate) enum Finding {
 
 /// What is found for an image that joined at a point, among recordings by rising id. Costs a step for each recording. Does not
 /// allocate.
-pub(crate) fn finding(recordings: &[Descriptor], point: &StreamPoint, resumes: Resumes) -> Finding
-    ensures { result ≡ finding resumes point.now recordings.now }
+pub(crate) fn finding_for(
+    recordings: &[Descriptor],
+    point: &StreamPoint,
+    resumes: Resumes,
+) -> Finding
+    ensures { result ≡ finding_for resumes point.now recordings.now }
 {
     if let Some(recording) = last_continued(recordings, point) {
         return Finding::Extends(recording);
@@ -149,7 +153,7 @@ fn told_stand(recording: &Descriptor, point: &StreamPoint) -> Option<Stand>
 fn tells_stand(recording: &Descriptor, point: &StreamPoint) -> bool
     ensures { result ≡ tells_stand point.now recording.now }
 {
-    is_same_stream(point, &stop_point(recording)) && !is_passed_over(recording, point)
+    is_one_stream(point, &stop_point(recording)) && !is_passed_over(recording, point)
 }
 
 /// Whether nothing was recorded, and a publication can't go on there.

@@ -14,20 +14,20 @@ use Rattle.server_state.specs.declared.resuming.Stand.{Stand}
 -- ---- how far back
 
 -- the reach of a publication, in bytes: half a term, and the longest message, which is an eighth of a term and at most 16 MiB
-abbrev pub reach : Geometry → ℕ
-reach g = unsigned_abs g.term_length / 2 + min (unsigned_abs g.term_length / 8) 16777216
+abbrev pub resume_reach : Geometry → ℕ
+resume_reach g = unsigned_abs g.term_length / 2 + min (unsigned_abs g.term_length / 8) 16777216
 
 -- a position lies before the point where a publication joined, and within reach of it
 abbrev pub is_within_reach : StreamPoint → ℤ → Bool
-is_within_reach join p = int_le (pos 0) p && int_lt p join.position && int_le (join.position -ℤ p) (pos (reach join.geometry))
+is_within_reach join p = int_le (pos 0) p && int_lt p join.position && int_le (join.position -ℤ p) (pos (resume_reach join.geometry))
 
 -- two points are of one stream: of the same publication, with the same terms
-abbrev pub is_same_stream : StreamPoint → StreamPoint → Bool
-is_same_stream join p = has_publication join.publication p && has_terms join.geometry p
+abbrev pub is_one_stream : StreamPoint → StreamPoint → Bool
+is_one_stream join p = has_publication join.publication p && has_terms join.geometry p
 
 -- a publication that joined at a point may go on at another one
 abbrev pub is_resumable : StreamPoint → StreamPoint → Bool
-is_resumable join p = is_same_stream join p && is_within_reach join p.position
+is_resumable join p = is_one_stream join p && is_within_reach join p.position
 
 -- ---- sessions
 
@@ -45,9 +45,9 @@ abbrev pub seat_stand : ℕ → StreamPoint → PairsState → Option Stand
 seat_stand n join s = slot_stand join (slot_of n s)
 
 -- the one of the least seat; or no session stands so
-abbrev pub StandsFor : StreamPoint → PairsState → Option Stand → Type 0
-StandsFor join s None = (n : ℕ) → n < 64 → seat_stand n join s ≡ None
-StandsFor join s (Some stand) =
+abbrev pub GoesOnAt : StreamPoint → PairsState → Option Stand → Type 0
+GoesOnAt join s None = (n : ℕ) → n < 64 → seat_stand n join s ≡ None
+GoesOnAt join s (Some stand) =
     (n : ℕ) × (n < 64) × (seat_stand n join s ≡ Some stand) × ((m : ℕ) → m < n → seat_stand m join s ≡ None)
 
 -- ---- where images come from

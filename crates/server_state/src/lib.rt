@@ -41,7 +41,7 @@ pub use pairing::{FedSession, ImageKey};
 pub use queue::{FedBlock, Queue, Taken};
 pub use reporter::{LineReporter, Reporter, Unreported};
 pub use resume_news::{HoleCause, ResumeNews};
-pub use resuming::{Resumes, Stand, is_resumable, is_same_stream, is_within_reach, reach};
+pub use resuming::{Resumes, Stand, is_one_stream, is_resumable, is_within_reach, resume_reach};
 pub use session_news::SessionNews;
 pub use settle_notice::SettleNotice;
 pub use shared::{ReceivedMeasures, Resumption, Shared, SharedOptions, WaitingImage};

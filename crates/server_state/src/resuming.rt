@@ -1,7 +1,7 @@
 //! Where a publication goes on before its setup frame: docs/PROTOCOL.md, "Where an image joins".
 
 ghost use Rattle.std.specs.Prelude.{◌≡◌, ◌<◌, ◌^◌};
-ghost use Rattle.server_state.specs.Resuming.{is_resumable, is_resumable_slot, is_same_stream, is_within_reach, may_resume, reach, slot_stand};
+ghost use Rattle.server_state.specs.Resuming.{is_resumable, is_resumable_slot, is_one_stream, is_within_reach, may_resume, resume_reach, slot_stand};
 
 use frame_core::Geometry;
 use stream_pairs::{SessionSlot, StreamPoint};
@@ -44,8 +44,8 @@ pub struct Stand {
 
 /// The reach of a publication, in bytes: how far before its setup frame it may go on. Half a term, and the longest message: an
 /// eighth of a term, at most 16,777,216. Does not allocate.
-pub fn reach(geometry: &Geometry) -> u64
-    ensures value { result ≡ reach geometry.now }
+pub fn resume_reach(geometry: &Geometry) -> u64
+    ensures value { result ≡ resume_reach geometry.now }
     ensures small { result < 2 ^ 31 }
 {
     let term_length = u64::from(geometry.term_length.unsigned_abs());
@@ -58,13 +58,13 @@ pub fn is_within_reach(join: &StreamPoint, position: i64) -> bool
 {
     0 <= position
         && position < join.position
-        && join.position - position <= reach(&join.geometry) as i64
+        && join.position - position <= resume_reach(&join.geometry) as i64
 }
 
 /// Whether two points are of one stream: of the same publication, with the same initial term id, term length and MTU. Does not
 /// allocate.
-pub fn is_same_stream(join: &StreamPoint, other: &StreamPoint) -> bool
-    ensures { result ≡ is_same_stream join.now other.now }
+pub fn is_one_stream(join: &StreamPoint, other: &StreamPoint) -> bool
+    ensures { result ≡ is_one_stream join.now other.now }
 {
     other.is_of(&join.publication)
         && other.geometry.initial_term_id == join.geometry.initial_term_id
@@ -76,7 +76,7 @@ pub fn is_same_stream(join: &StreamPoint, other: &StreamPoint) -> bool
 pub fn is_resumable(join: &StreamPoint, other: &StreamPoint) -> bool
     ensures { result ≡ is_resumable join.now other.now }
 {
-    is_same_stream(join, other) && is_within_reach(join, other.position)
+    is_one_stream(join, other) && is_within_reach(join, other.position)
 }
 
 /// Where a session stands, if a publication that joined at a point may go on there: it is open, and has no image.

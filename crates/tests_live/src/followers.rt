@@ -75,7 +75,7 @@ fn sent(message: &[u8]) -> [u8; 64] {
 fn comes(stream: &mut TcpStream, wanted: &[u8]) -> bool {
     let mut bytes = [0; 160];
     match bytes.get_mut(..wanted.len()) {
-        Some(bytes) => stream.read_exact(bytes).is_ok() && bytes == wanted,
+        Some(bytes) => stream.read_exact(bytes).is_ok() && &*bytes == wanted,
         None => false,
     }
 }

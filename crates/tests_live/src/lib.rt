@@ -7,6 +7,8 @@ mod agents;
 #[cfg(test)]
 mod archives;
 #[cfg(test)]
+mod benches;
+#[cfg(test)]
 mod checkpoints;
 #[cfg(test)]
 mod client;
@@ -22,6 +24,8 @@ mod ends;
 mod failing;
 #[cfg(test)]
 mod followers;
+#[cfg(test)]
+mod groups;
 #[cfg(test)]
 mod held_back;
 #[cfg(test)]

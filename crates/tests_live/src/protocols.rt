@@ -8,8 +8,10 @@ use server::{SETTLE_EVERY, ServeOptions, Unreported, serve_with};
 use std::alloc::Global;
 use std::io::{Read, Write};
 use std::net::{Net, TcpListener, TcpStream};
+use std::rt::Clock;
+use std::sync::Wait;
 use std::test::Fail;
-use std::thread;
+use std::thread::{self, Threads};
 
 /// What a browser on the server's host may send, whose body is a line. A TLS handshake begins with the byte 16 hexadecimal.
 const FOREIGN: [&[u8]; 11] = [
@@ -82,28 +84,34 @@ fn are_refused<R: Net<Listener = TcpListener, Stream = TcpStream>>(
     }
 }
 
-/// Serves an empty disk with options while connections of other protocols come.
-fn check(rt: HostRuntime, options: ServeOptions<'_>) -> Result<(), Fail> {
-    let alloc = rt.alloc();
-    let (ends, ports) = bound(&rt).ok_or("ports")?;
+/// Serves an empty disk with options while connections of other protocols come. Whether all goes as it has to.
+fn is_served<R: Threads + Wait + Clock + Net<Listener = TcpListener, Stream = TcpStream> + Sync>(
+    rt: &R,
+    alloc: Global,
+    options: ServeOptions<'_>,
+) -> bool {
+    let Some((ends, ports)) = bound(rt) else {
+        return false;
+    };
     let disk = MemoryDisk::new(alloc);
-    let (is_served, is_right) = thread::join(
-        &rt,
-        move || serve_with(&rt, alloc, ends, disk, &options, Unreported).is_ok(),
-        move || are_refused(&rt, alloc, ports),
+    let (has_ended, is_right) = thread::join(
+        rt,
+        move || { serve_with(rt, alloc, ends, disk, &options, Unreported).is_ok() },
+        move || are_refused(rt, alloc, ports),
     );
-    assert!(rt; is_served && is_right);
-    Ok(())
+    has_ended && is_right
 }
 
 #[test]
 fn another_protocol_is_refused(rt: HostRuntime) -> Result<(), Fail> {
-    check(rt, options(60, SETTLE_EVERY))
+    assert!(rt; is_served(&rt, rt.alloc(), options(60, SETTLE_EVERY)));
+    Ok(())
 }
 
 #[test]
 fn another_protocol_is_refused_by_each_of_several_places(rt: HostRuntime) -> Result<(), Fail> {
     let mut options = receiver();
     options.clients = Some(4);
-    check(rt, options)
+    assert!(rt; is_served(&rt, rt.alloc(), options));
+    Ok(())
 }

@@ -221,6 +221,7 @@ pauses
 casts HEARTBEAT_AT_192
 casts HELLO_AT_128
 awaits positions 0: positions 0 192 -1
+pauses
 asks quit: bye
 ";
 
@@ -300,6 +301,7 @@ casts SETUP_AT_192
 receives NAK_AT_128
 casts HELLO_AT_128
 awaits positions 0: positions 128 192 -1
+pauses
 asks quit: bye
 ";
 
@@ -310,6 +312,7 @@ asks start 1001 7 42 65536 1408 65536 128 1000 c: started 0 0
 receives-among NAK_AT_128
 casts HELLO_AT_128
 awaits positions 0: positions 128 192 -1
+pauses
 asks quit: bye
 ";
 

@@ -1,5 +1,5 @@
 -- What the opening says, and what is reported behind it.
-use Rattle.std.proofs.Common.{rules}
+use Rattle.std.proofs.Common.{rules, inr, refl}
 use Rattle.engine_core.specs.Seen.{seen}
 use Rattle.archive_commands.specs.Reports.{HasReported, HasReportedFirst, InTurn, InTurnAndOne, ids_asked, verifies_by}
 use Rattle.archive_commands.proofs.CommandLemmas.{unverified}
@@ -8,6 +8,18 @@ use Rattle.archive_commands.proofs.commands.verify_archive.Goals as goal
 
 pub returns-in_err-engine-clause-fault : goal.returns-in_err-engine-clause-fault
 returns-in_err-engine-clause-fault g c = unverified g.D.Disk.life (g.D.Disk.life c.args.disk) _ c.from_residual.result c.in_err-engine.field-0.0 (search rules) c.args.asked c.in_err-engine.ensures.refused
+
+pub returns-then-not-has_asked-clause-fault : goal.returns-then-not-has_asked-clause-fault
+returns-then-not-has_asked-clause-fault g c = (
+  inr (record {
+    opened = seen g.D.Disk.life c.in_ok-engine.engine;
+    opens = c.in_ok-engine.ensures.opened;
+    absent = search rules;
+    left = c.into_disk.ensures;
+    is = refl;
+  }),
+  refl,
+)
 
 pub returns-in-Ok-clause-verified : goal.returns-in-Ok-clause-verified
 returns-in-Ok-clause-verified g c =
