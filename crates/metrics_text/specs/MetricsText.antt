@@ -17,9 +17,9 @@ use Rattle.metrics_text.specs.declared.image_family.ImageFamily.TheVariants.{Reb
 -- ---- numbers
 
 -- 1 if a fact holds, 0 if not
-abbrev pub one_or_zero : Bool → List ℕ
-one_or_zero true = codes "1"
-one_or_zero false = codes "0"
+abbrev pub one_or_zero : Bool → ℕ
+one_or_zero true = 1
+one_or_zero false = 0
 
 -- microseconds as seconds, with six decimals
 unfoldable pub seconds : ℕ → List ℕ
@@ -77,6 +77,10 @@ counter who name help n = family (codes "counter") name help (line name (own_lab
 abbrev pub gauge : List ℕ → List ℕ → List ℕ → List ℕ → Family
 gauge who name help number = family (codes "gauge") name help (line name (own_labels who) number)
 
+-- a fact: 1 if it holds, 0 if not
+abbrev pub fact : List ℕ → List ℕ → List ℕ → Bool → Family
+fact who name help holds = gauge who name help (decimal (one_or_zero holds))
+
 -- how many there were, and how many seconds they took in all
 abbrev pub summary : List ℕ → List ℕ → List ℕ → ℕ → ℕ → Family
 summary who name help us n = family (codes "summary") name help
@@ -85,9 +89,11 @@ summary who name help us n = family (codes "summary") name help
 -- ---- what is measured, in the order of the text
 
 -- which program runs, and since when
+unfoldable pub build_line : RecorderAbout → List ℕ
+build_line a = line (codes "aeron_recorder_build_info") (build_labels a) (decimal 1)
+
 abbrev pub build_family : RecorderAbout → Family
-build_family a = family (codes "gauge") (codes "aeron_recorder_build_info") (codes "The program, and the catalogues that it writes.")
-    (line (codes "aeron_recorder_build_info") (build_labels a) (codes "1"))
+build_family a = family (codes "gauge") (codes "aeron_recorder_build_info") (codes "The program, and the catalogues that it writes.") (build_line a)
 
 abbrev pub start_family : RecorderAbout → Family
 start_family a = gauge a.name.now (codes "aeron_recorder_start_time_seconds") (codes "When the server began, since 1970.") (seconds a.started_micros)
@@ -97,9 +103,9 @@ about_families a = build_family a ∷ start_family a ∷ []
 
 abbrev pub state_families : List ℕ → ArchiveMeasures → List Family
 state_families who a =
-    gauge who (codes "aeron_recorder_archive_open") (codes "Whether an archive is open.") (one_or_zero a.is_open)
-    ∷ gauge who (codes "aeron_recorder_archive_broken") (codes "Whether a device fault broke the archive.") (one_or_zero a.is_broken)
-    ∷ gauge who (codes "aeron_recorder_history_full") (codes "Whether the history has no room for an entry.") (one_or_zero a.is_full)
+    fact who (codes "aeron_recorder_archive_open") (codes "Whether an archive is open.") a.is_open
+    ∷ fact who (codes "aeron_recorder_archive_broken") (codes "Whether a device fault broke the archive.") a.is_broken
+    ∷ fact who (codes "aeron_recorder_history_full") (codes "Whether the history has no room for an entry.") a.is_full
     ∷ []
 
 abbrev pub history_families : List ℕ → ArchiveMeasures → List Family

@@ -2,7 +2,7 @@
 
 ghost use Rattle.std.specs.Prelude.{◌≡◌, ◌++◌, OnOk, IfOk, codes, decimal, string_bytes};
 ghost use Rattle.std.specs.List.{flat_map};
-ghost use Rattle.metrics_text.specs.MetricsText.{about_families, build_family, build_labels, client_families, counter, family_text, gauge, head, history_families, hole_families, image_family, image_labels, image_metric_line, image_number, line, measures_text, metrics_text, one_or_zero, own_labels, position_text, received_families, recorded_family, recorded_line, recorder_families, recording_labels, resume_families, seconds, sent_families, start_family, state_families, summary};
+ghost use Rattle.metrics_text.specs.MetricsText.{about_families, build_family, build_labels, build_line, client_families, counter, fact, family_text, gauge, head, history_families, hole_families, image_family, image_labels, image_metric_line, image_number, line, measures_text, metrics_text, own_labels, position_text, received_families, recorded_family, recorded_line, recorder_families, recording_labels, resume_families, seconds, sent_families, start_family, state_families, summary};
 
 use crate::about::RecorderAbout;
 use crate::image_family::ImageFamily;
@@ -111,7 +111,6 @@ fn put_gauge(
 }
 
 /// A family of a fact.
-#[tactic(auto, unfolding(crate::specs::MetricsText::family_text))]
 fn put_fact(
     out: &mut String,
     who: &str,
@@ -120,14 +119,12 @@ fn put_fact(
     holds: bool,
 ) -> Result<(), AllocError>
     ensures { OnOk result
-        (string_bytes out.new ≡ string_bytes out.old ++ family_text (gauge who.now name.now help.now (one_or_zero holds))) }
+        (string_bytes out.new ≡ string_bytes out.old ++ family_text (fact who.now name.now help.now holds)) }
 {
-    put_head(out, "gauge", name, help)?;
-    put_name(out, who, name)?;
     if holds {
-        out.push_str(" 1\n")
+        put_gauge(out, who, name, help, 1)
     } else {
-        out.push_str(" 0\n")
+        put_gauge(out, who, name, help, 0)
     }
 }
 
@@ -561,9 +558,17 @@ fn put_build(out: &mut String, about: &RecorderAbout<'_>) -> Result<(), AllocErr
         "aeron_recorder_build_info",
         "The program, and the catalogues that it writes.",
     )?;
+    put_build_line(out, about)
+}
+
+#[tactic(auto, unfolding(crate::specs::MetricsText::build_line))]
+fn put_build_line(out: &mut String, about: &RecorderAbout<'_>) -> Result<(), AllocError>
+    ensures { OnOk result (string_bytes out.new ≡ string_bytes out.old ++ build_line about.now) }
+{
     out.push_str("aeron_recorder_build_info")?;
     put_build_labels(out, about)?;
-    out.push_str(" 1\n")
+    let one: u64 = 1;
+    writeln!(out, " {one}")
 }
 
 fn put_build_labels(out: &mut String, about: &RecorderAbout<'_>) -> Result<(), AllocError>
