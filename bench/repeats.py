@@ -6,14 +6,15 @@ Usage: bench/repeats.py [--plans N]   N random plans, 1,000 by default
 The sender follows docs/PROTOCOL.md, "Publications of recordings". The receiver follows "Images", "Stock" and "Status messages and
 NAKs of a receiver", and consumes at once what it has rebuilt. A plan says how many datagrams are lost, in both directions alike, come
 twice or overtake others, how long the way is, the window, and the frames. Time is virtual, in steps of one millisecond. Nothing of
-the program runs here, so the numbers are those of the rules, on any machine. Fails if a plan ends without a copy, or if at one of
-the losses a datagram that is lost costs more than MOST repeats on average.
+the program runs here, so the numbers are those of the rules, on any machine. A datagram that was overtaken is asked for too, since
+a receiver asks at once: so lines that keep the order are counted apart. Fails if a plan ends without a copy, or if a datagram that is
+lost on those lines costs more than MOST repeats, on average over the plans of one of the losses.
 """
 import argparse
 import heapq
 import random
 import sys
-from collections import Counter
+from collections import Counter, defaultdict
 from collections.abc import Iterator
 from dataclasses import dataclass, field
 from typing import NamedTuple
@@ -240,25 +241,28 @@ def plan_of(number: int, draw: random.Random) -> Plan:
     )
 
 
+def report(plans: dict[tuple[bool, float], list[Counter[str]]]) -> Iterator[bool]:
+    """Prints what each loss costs, on lines that keep the order and on lines that do not. Whether it is at most MOST, if they keep it."""
+    for (overtakes, loss), counts in sorted(plans.items()):
+        total: Counter[str] = sum(counts, Counter())
+        worst = max((it["repeat"] / it["lost"] for it in counts if it["lost"] >= 20), default=0)
+        order = "datagrams overtake others" if overtakes else "the order is kept"
+        print(f"{loss:.0%} lost, {order}: {len(counts)} plans, {total['first']} datagrams, {total['repeat']} repeats, {total['lost']} of both lost, "
+              f"{total['repeat'] / max(1, total['lost']):.2f} repeats for each, at most {worst:.2f} in a plan that loses 20")
+        yield overtakes or total["repeat"] <= MOST * total["lost"]
+
+
 def main() -> int:
     parser = argparse.ArgumentParser()
     parser.add_argument("--plans", type=int, default=1_000)
-    plans = parser.parse_args().plans
-    totals: dict[float, Counter[str]] = {it: Counter() for it in LOSSES}
-    worst = dict.fromkeys(LOSSES, 0.0)
-    for number in range(plans):
+    plans: dict[tuple[bool, float], list[Counter[str]]] = defaultdict(list)
+    for number in range(parser.parse_args().plans):
         draw = random.Random(number)
         plan = plan_of(number, draw)
         if (counts := run(plan, draw)) is None:
             sys.exit(f"plan {number} ends without a copy: {plan}")
-        totals[plan.loss] += counts
-        if counts["lost"] >= 20:
-            worst[plan.loss] = max(worst[plan.loss], counts["repeat"] / counts["lost"])
-    for loss, counts in totals.items():
-        each = counts["repeat"] / max(1, counts["lost"])
-        print(f"{loss:.0%} lost: {counts['first']} datagrams, {counts['lost']} of them and of {counts['repeat']} repeats lost: "
-              f"{each:.2f} repeats for each, at most {worst[loss]:.2f} in a plan; {counts['nak']} NAKs, {counts['status']} status messages")
-    return 1 if any(it["repeat"] > MOST * it["lost"] for it in totals.values()) else 0
+        plans[plan.late > 0, plan.loss].append(counts)
+    return 0 if all(list(report(plans))) else 1
 
 
 if __name__ == "__main__":

@@ -41,7 +41,7 @@ recording_as Json files r = recording_text files r
 -- the text in a form on the recording that is asked for alone, or on the archive
 abbrev pub text_asked : Option ℤ → Form → DeskState → List Measured → List FileId → List FileId → List ℕ
 text_asked None form d files stale unknown = text_as form d files stale unknown
-text_asked (Some id) form d files stale unknown = option_map_or (recording_as form files) [] (registration_in d.register id)
+text_asked (Some id) form d files stale unknown = option_map_or (recording_as form files) (registration_in d.register id) []
 
 -- which files no recording knows is a matter of the files
 abbrev pub description : Option ℤ → Form → DeskState → List Measured → List FileId → List ℕ

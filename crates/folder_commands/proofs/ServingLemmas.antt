@@ -10,7 +10,7 @@ use Rattle.folder_commands.specs.declared.status.Ending.{Ending}
 use Rattle.folder_commands.specs.declared.status.Ending.TheVariants.{Done, Cut, Refused, Stuck, Hidden, Unopened, FoundDamage, LineRefused, NoCommand, Failed}
 use Rattle.folder_commands.specs.Folders.{IsUnopenedFolder}
 use Rattle.folder_commands.specs.Hidden.{MayHideEntries}
-use Rattle.folder_commands.specs.Serving.{AreOptions, AreWrong, HasCatalogue, HasNoEnds, IsUnbound, LacksCatalogue, ServesFolder, ServesOver}
+use Rattle.folder_commands.specs.Serving.{AreOptions, AreWrong, HasCatalogue, HasNoEnds, IsUnbound, LacksCatalogue, LeavesUncatalogued, ServesFolder, ServesOver}
 
 module _ (given : Given) (words : ServeWords) (looked : Option Life) (receiver : ℤ) (options : ServeOptions) (asked : AreOptions words receiver options) (named : HasNoEnds words → ⊥) where
   are_right : AreWrong words → ⊥
@@ -42,17 +42,15 @@ module _ (given : Given) (words : ServeWords) (looked : Option Life) (receiver :
       by (NoCommand kind) h = absurd h
 
   -- the folder has no catalogue, which is asked for
-  pub not_there : (left : Option Life) (old new : Life) (last ending : Ending) → old ≡ life_from given → IsTrue words.no_create → IsQuiet old new → LacksCatalogue old new last
-      → left ≡ Some new → ending ≡ last → ServesFolder given words looked left ending
-  not_there left old new last ending begins asked_for quiet lacks was so =
-      subst (λ (l : Option Life). ServesFolder given words looked l ending) (sym was) (subst (ServesFolder given words looked (Some new)) (sym so)
-      (by last (subst (λ (l : Life). LacksCatalogue l new last) begins lacks)))
+  pub not_there : (left : Option Life) (old : Life) (ending : Ending) → old ≡ life_from given → LeavesUncatalogued words.no_create old left ending → ServesFolder given words looked left ending
+  not_there left old ending begins h =
+      subst (λ (l : Option Life). ServesFolder given words looked l ending) (sym h.is) (by ending (subst (λ (l : Life). LacksCatalogue l h.new ending) begins h.lacks))
     where
-      still : IsQuiet (life_from given) new
-      still = subst (λ (l : Life). IsQuiet l new) begins quiet
+      still : IsQuiet (life_from given) h.new
+      still = subst (λ (l : Life). IsQuiet l h.new) begins h.quiet
 
-      by : (e : Ending) → LacksCatalogue (life_from given) new e → ServesFolder given words looked (Some new) e
-      by (Refused refusal) h = (are_right, asked_for, still, h)
+      by : (e : Ending) → LacksCatalogue (life_from given) h.new e → ServesFolder given words looked (Some h.new) e
+      by (Refused refusal) lacks = (are_right, h.must, still, lacks)
       by (Failed fault) h = absurd h
       by Done h = absurd h
       by (Cut end) h = absurd h

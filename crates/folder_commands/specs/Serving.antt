@@ -1,5 +1,5 @@
 -- What `serve` does over the archive of a folder, and how it ends: docs/SERVING.md.
-use Rattle.std.specs.Prelude.{◌≡◌, ◌⊎◌, ◌↔◌, Bor, ◌<◌, ◌≤◌, ◌%◌, ◌&&◌, ◌||◌, ◌==◌, ℕ, ℤ, pos, Bool, true, false, List, [], ◌∷◌, length, IfSome, IsTrue, IsSomeAnd, nat_le, Option, None, Some, is_some}
+use Rattle.std.specs.Prelude.{◌≡◌, ◌⊎◌, ◌↔◌, Bor, ◌<◌, ◌≤◌, ◌%◌, ◌&&◌, ◌||◌, ◌==◌, ℕ, ℤ, pos, Bool, true, false, List, [], ◌∷◌, length, IfSome, IsTrue, IsSomeAnd, nat_le, nat_lt, Option, None, Some, is_some}
 use Rattle.std.specs.Int.{is_power_of_two}
 use Rattle.std.specs.List.{list_all}
 use Rattle.std.specs.Net.Addr.{IsMulticastV4}
@@ -7,6 +7,7 @@ use Rattle.std.specs.Net.Grammar.{IsIpv4Text}
 use Rattle.std.specs.declared.net.ipv4_addr.Ipv4Addr.{Ipv4Addr}
 use Rattle.clap.specs.declared.error.ErrorKind.TheVariants.{ValueValidation}
 use Rattle.frame_core.specs.declared.refusal.Refusal.TheVariants.{DeviceFault, NotCatalogue}
+use Rattle.disk_core.specs.declared.file_id.FileId.{FileId}
 use Rattle.disk_core.specs.declared.file_id.FileId.TheVariants.{BankA, BankB}
 use Rattle.disk_core.specs.DiskImage.{DiskImage, bytes_of, reads}
 use Rattle.disk_core.specs.Life.{IsQuiet, Life}
@@ -183,19 +184,31 @@ abbrev pub IsUnbound : Ending → Type 0
 IsUnbound (Failed fault) = Unit {0}
 IsUnbound ending = ⊥
 
--- an image has no catalogue: neither bank has a byte
-abbrev pub IsWithoutCatalogue : DiskImage → Type 0
-IsWithoutCatalogue image = (bytes_of (image BankA) ≡ []) × (bytes_of (image BankB) ≡ [])
+-- a file of an image has bytes
+abbrev pub has_bytes : FileId → DiskImage → Bool
+has_bytes file image = nat_lt 0 (length (bytes_of (image file)))
+
+-- an image has a catalogue: one of its banks has bytes
+abbrev pub has_catalogue : DiskImage → Bool
+has_catalogue image = has_bytes BankA image || has_bytes BankB image
 
 -- a disk was looked at, up to this life, and has a catalogue, if it obeys the crash model
 abbrev pub HasCatalogue : Life → Life → Type 0
-HasCatalogue old new = IsTrue new.obeys → IsWithoutCatalogue (reads old.now) → ⊥
+HasCatalogue old new = IsTrue new.obeys → has_catalogue (reads old.now) ≡ true
 
 -- it has none, or a call of the disk failed
 abbrev pub LacksCatalogue : Life → Life → Ending → Type 0
-LacksCatalogue old new (Refused NotCatalogue) = IsTrue new.obeys → IsWithoutCatalogue (reads old.now)
+LacksCatalogue old new (Refused NotCatalogue) = IsTrue new.obeys → has_catalogue (reads old.now) ≡ false
 LacksCatalogue old new (Refused DeviceFault) = Unit {0}
 LacksCatalogue old new ending = ⊥
+
+-- a server that asks for a catalogue ended so, and left a disk without one, which was at most looked at
+pub record LeavesUncatalogued (asked : Bool) (old : Life) (left : Option Life) (ending : Ending) : Type 0 where
+  pub must : IsTrue asked
+  pub new : Life
+  pub quiet : IsQuiet old new
+  pub lacks : LacksCatalogue old new ending
+  pub is : left ≡ Some new
 
 -- ---- the server
 

@@ -75,11 +75,7 @@ pub(crate) struct MetricsFile<'a> {
 }
 
 impl<'a> MetricsFile<'a> {
-    pub(crate) fn new(
-        rt: HostRuntime,
-        name: &'a str,
-        about: RecorderAbout<'a>,
-    ) -> MetricsFile<'a> {
+    pub(crate) fn new(rt: HostRuntime, name: &'a str, about: RecorderAbout<'a>) -> MetricsFile<'a> {
         MetricsFile {
             rt,
             name,

@@ -1,18 +1,18 @@
 //! The command `serve`: its words, its ports, and the archive of its folder. docs/SERVING.md, "How to run it".
 
-ghost use Rattle.std.specs.Prelude.{◌≡◌, ◌&&◌, ◌≤◌, ◌<◌, ◌↔◌, None, Some, Ok, true, false, IfErr, IfOk, IfSome, IsSomeAnd, IsTrue, MatchResult, option_map};
+ghost use Rattle.std.specs.Prelude.{◌≡◌, ◌&&◌, ◌≤◌, ◌<◌, ◌↔◌, None, Some, IfErr, IfOk, IfSome, IsSomeAnd, IsTrue, MatchResult, option_map};
+ghost use Rattle.disk_core.specs.DiskImage.{reads};
 ghost use Rattle.disk_core.specs.Life.{IsQuiet};
 ghost use Rattle.std.specs.IoError.{error_kind};
 ghost use Rattle.clap.specs.declared.error.ErrorKind.TheVariants.{ValueValidation};
 ghost use Rattle.host_disk.specs.Events.{Given};
 ghost use Rattle.host_disk.specs.HostDisk.{host_life};
-ghost use Rattle.folder_commands.specs.declared.status.Ending.TheVariants.{NoCommand, Failed, Refused};
+ghost use Rattle.folder_commands.specs.declared.status.Ending.TheVariants.{NoCommand, Failed};
 ghost use Rattle.folder_commands.specs.declared.why.Why.TheVariants.{Usage};
 ghost use Rattle.command_line.specs.declared.usage.UsageError.TheVariants.{Name};
-ghost use Rattle.frame_core.specs.declared.refusal.Refusal.TheVariants.{NotCatalogue};
 ghost use Rattle.folder_commands.specs.Folders.{ending_in};
 ghost use Rattle.folder_commands.specs.Left.{ends_with, leaves, left_life, sees};
-ghost use Rattle.folder_commands.specs.Serving.{AreOptions, AsksForCheckpoints, HasBadCheckpoints, HasBadName, HasBadOptions, HasBadSegments, HasBadStreams, HasBadWindow, HasNoConsumersEnd, HasNoEnds, HasSegments, HasWindow, IsAddressReason, HasCatalogue, HasName, IsNoAddress, IsReceiverWindow, IsSegmentLength, IsUnbound, LacksCatalogue, RecordsStreams, ServesFolder, ServesOver, checkpoints_reason, is_name_byte, is_recorder_name, segment_reason, streams_reason, window_reason};
+ghost use Rattle.folder_commands.specs.Serving.{AreOptions, AsksForCheckpoints, HasBadCheckpoints, HasBadName, HasBadOptions, HasBadSegments, HasBadStreams, HasBadWindow, HasNoConsumersEnd, HasNoEnds, HasSegments, HasWindow, IsAddressReason, HasCatalogue, HasName, IsNoAddress, IsReceiverWindow, IsSegmentLength, IsUnbound, LacksCatalogue, LeavesUncatalogued, RecordsStreams, ServesFolder, ServesOver, checkpoints_reason, has_bytes, has_catalogue, is_name_byte, is_recorder_name, segment_reason, streams_reason, window_reason};
 
 use crate::exit::Exit;
 use crate::flushing::FolderFlusher;
@@ -92,7 +92,7 @@ pub(crate) fn serve<
         Err(exit) => return Err(unserved(exit, disk)),
     };
     let looked = warns_of_hidden_by(rt, folder, &log_of(net, words));
-    let options = begun(options, looked.is_none());
+    let begun = begun_with(options, looked.is_none());
     if let Some(looked) = looked {
         if words.is_strict {
             return Err(Outcome {
@@ -102,22 +102,19 @@ pub(crate) fn serve<
             });
         }
     }
-    let disk = match with_catalogue(disk, words.no_create) {
-        Ok(disk) => disk,
-        Err((exit, disk)) => return Err(unserved(exit, disk)),
-    };
-    let disk = Watched::new(disk, ServeFaults::new(rt.alloc(), log_of(net, words)));
+    let ready = with_catalogue(disk, words.no_create)?;
+    let disk = Watched::new(ready, ServeFaults::new(rt.alloc(), log_of(net, words)));
     let mut digits = itoa::Buffer::new();
     let label = words.name.unwrap_or(digits.format(words.receive));
     let metrics = metrics_of(rt, words, label);
     let reporter = ServeReporter::new(log_of(net, words), words.is_quiet, metrics);
     let flusher = FolderFlusher::<R, Brand>::new(log_of(net, words), rt, folder);
-    let (disk, done) = serve_disk(net, rt.alloc(), ends, disk, &options, reporter, &flusher);
+    let (disk, done) = serve_disk(net, rt.alloc(), ends, disk, &begun, reporter, &flusher);
     Outcome::leaving(done, closed(disk))
 }
 
 /// The options of a server that makes no checkpoint before its first line if its catalogue may hide entries.
-fn begun<'a>(options: ServeOptions<'a>, is_plain: bool) -> ServeOptions<'a>
+fn begun_with<'a>(options: ServeOptions<'a>, is_plain: bool) -> ServeOptions<'a>
     ensures { result ≡ record options { begins_short = options.begins_short && is_plain } }
 {
     ServeOptions {
@@ -148,12 +145,13 @@ fn unserved(exit: Exit, disk: HostDisk) -> Outcome
     }
 }
 
-/// The disk, if no catalogue is asked for, or there is one; else why not, and the disk.
-fn with_catalogue(disk: HostDisk, must_exist: bool) -> Result<HostDisk, (Exit, HostDisk)>
-    ensures there { IfOk result (λ back. IsQuiet (host_life disk) (host_life back)
-        × (IsTrue must_exist → HasCatalogue (host_life disk) (host_life back))) }
-    ensures lacks { IfErr result (λ found. IsTrue must_exist × IsQuiet (host_life disk) (host_life found.1)
-        × LacksCatalogue (host_life disk) (host_life found.1) found.0.ending) }
+/// The disk, if no catalogue is asked for, or there is one; else how a server ends that wants one. The disk is closed then.
+fn with_catalogue(disk: HostDisk, must_exist: bool) -> Result<HostDisk, Outcome>
+    ensures quiet { IfOk result (λ back. IsQuiet (host_life disk) (host_life back)) }
+    ensures there { IfOk result (λ back.
+        IsTrue must_exist → HasCatalogue (host_life disk) (host_life back)) }
+    ensures lacks { IfErr result (λ outcome. LeavesUncatalogued must_exist (host_life disk)
+        (left_life outcome.left) outcome.exit.ending) }
 {
     if !must_exist {
         return Ok(disk);
@@ -161,7 +159,7 @@ fn with_catalogue(disk: HostDisk, must_exist: bool) -> Result<HostDisk, (Exit, H
     let mut disk = disk;
     match has_catalogue(&mut disk) {
         Ok(true) => Ok(disk),
-        Ok(false) => Err((
+        Ok(false) => Err(unserved(
             Exit {
                 ending: Ending::Refused(Refusal::NotCatalogue),
                 why: Why::NoArchive,
@@ -170,7 +168,7 @@ fn with_catalogue(disk: HostDisk, must_exist: bool) -> Result<HostDisk, (Exit, H
         )),
         Err(_) => {
             let exit = Exit::stopped(Stop::Refused(Refusal::DeviceFault), disk.last_fault());
-            Err((exit, disk))
+            Err(unserved(exit, disk))
         }
     }
 }
@@ -178,13 +176,20 @@ fn with_catalogue(disk: HostDisk, must_exist: bool) -> Result<HostDisk, (Exit, H
 /// Whether a disk has a catalogue: a bank with bytes.
 fn has_catalogue<D: Disk>(disk: &mut D) -> Result<bool, Fault>
     ensures quiet { IsQuiet (D.life disk.old) (D.life disk.new) }
-    ensures there { result ≡ Ok true → HasCatalogue (D.life disk.old) (D.life disk.new) }
-    ensures lacks { result ≡ Ok false → LacksCatalogue (D.life disk.old) (D.life disk.new) (Refused NotCatalogue) }
+    ensures found { IfOk result (λ has. IsTrue (D.life disk.new).obeys → has ≡ has_catalogue (reads (D.life disk.old).now)) }
 {
-    if disk.len(FileId::BankA)? > 0 {
-        return Ok(true);
-    }
-    Ok(disk.len(FileId::BankB)? > 0)
+    let first = has_bytes(disk, FileId::BankA)?;
+    let second = has_bytes(disk, FileId::BankB)?;
+    Ok(first || second)
+}
+
+/// Whether a file of a disk has bytes.
+fn has_bytes<D: Disk>(disk: &mut D, file: FileId) -> Result<bool, Fault>
+    ensures quiet { IsQuiet (D.life disk.old) (D.life disk.new) }
+    ensures found { IfOk result (λ has. IsTrue (D.life disk.new).obeys → has ≡ has_bytes file (reads (D.life disk.old).now)) }
+{
+    let bytes = disk.len(file)?;
+    Ok(bytes > 0)
 }
 
 /// A random number for a receiver, so that no other one is likely to have it. 0 if the system gives none.

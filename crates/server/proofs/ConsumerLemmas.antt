@@ -9,24 +9,29 @@ use Rattle.std.proofs.lemmas.List.Folds.{length-prefix_len, prefix_len-append}
 use Rattle.std.proofs.lemmas.List.Sums.{position_or_len_is, prefix_len-le-length}
 use Rattle.std.proofs.lemmas.Slice.Eq.{bytes_eq-Decides}
 use Rattle.memchr.specs.Find.{IsFirstByte, is_byte}
-use Rattle.server.specs.ConsumerLines.{first_word, is_consumer_word, is_for_consumers}
+use Rattle.server.specs.ConsumerLines.{IsWordDecided, IsWordKnown, first_word, is_consumer_word, is_for_consumers}
 
-blank : ℕ → Bool
+abbrev pub blank : ℕ → Bool
 blank b = b == 32
 
-no_true : (b : Bool) → (b ≡ true → ⊥) → b ≡ false
-no_true false no = refl
-no_true true no = absurd (no refl)
+not_true : (b : Bool) → (b ≡ true → ⊥) → b ≡ false
+not_true false other = refl
+not_true true other = absurd (other refl)
 
 -- ---- the first word
 
 -- the first blank ends it
 pub word_before : (line : List ℕ) (r : Option ℕ) → IsFirstByte (is_byte 32) line r → MatchOption r (first_word line ≡ line) (λ at. first_word line ≡ take at line)
 word_before line None none =
-    let no_blank : position_or_len blank line ≡ length line = position_or_len_is blank line (length line) 0 (omega arith) (λ k below. no_true _ (none k (omega arith) below)) (λ below. absurd (omega (arith, below))) in
+    let no_blank : position_or_len blank line ≡ length line = position_or_len_is blank line (length line) 0 (omega arith) (λ k below. not_true _ (none k (omega arith) below)) (λ below. absurd (omega (arith, below))) in
     ap (λ k. take k line) no_blank ∙ take-length line
 word_before line (Some at) first =
-    ap (λ k. take k line) (position_or_len_is blank line at 0 (omega (arith, (first.0).high)) (λ k below. no_true _ ((first.0).before k (omega arith) below)) (λ within. first.1))
+    ap (λ k. take k line) (position_or_len_is blank line at 0 (omega (arith, (first.0).high)) (λ k below. not_true _ ((first.0).before k (omega arith) below)) (λ within. first.1))
+
+pub word_ends : (line : List ℕ) (at : ℕ) → IsFirstByte (is_byte 32) line (Some at) → IsWordKnown line
+word_ends line at first =
+    let is : position_or_len blank line ≡ at = position_or_len_is blank line at 0 (omega (arith, (first.0).high)) (λ k below. not_true _ ((first.0).before k (omega arith) below)) (λ within. first.1) in
+    inl (omega (arith, is, (first.0).high))
 
 -- where it ends, it ends whatever follows
 word_stays : (front rest : List ℕ) → position_or_len blank front < length front → first_word (front ++ rest) ≡ first_word front
@@ -38,7 +43,7 @@ word_stays front rest within =
 word_grows : (front rest : List ℕ) → position_or_len blank front ≡ length front → length front ≤ length (first_word (front ++ rest))
 word_grows front rest whole =
     let more : position_or_len blank (front ++ rest) ≡ length front + position_or_len blank rest = prefix_len-append (λ b. not (blank b)) front rest ∙ rw (eq-eqb _ _ whole) refl in
-    let size = length-prefix_len (λ b. not (blank b)) (front ++ rest) in
+    let size : length (first_word (front ++ rest)) ≡ position_or_len blank (front ++ rest) = length-prefix_len (λ b. not (blank b)) (front ++ rest) in
     omega (arith, more, size)
 
 -- ---- words that are answered
@@ -64,7 +69,7 @@ too_long word long =
     ) refl
 
 -- what is known of bytes stays, whatever follows: the first word has ended, or it is too long
-pub stays : (front rest : List ℕ) → (position_or_len blank front < length front) ⊎ (9 < length front) → is_for_consumers (front ++ rest) ≡ is_for_consumers front
+stays : (front rest : List ℕ) → IsWordKnown front → is_for_consumers (front ++ rest) ≡ is_for_consumers front
 stays front rest (inl within) = ap is_consumer_word (word_stays front rest within)
 stays front rest (inr long) = by (split (position_or_len blank front) (length front) (prefix_len-le-length (λ b. not (blank b)) front))
   where
@@ -76,3 +81,8 @@ stays front rest (inr long) = by (split (position_or_len blank front) (length fr
     by (inr whole) =
         let all : length (first_word front) ≡ position_or_len blank front = length-prefix_len (λ b. not (blank b)) front in
         too_long (first_word (front ++ rest)) (omega (arith, long, word_grows front rest whole)) ∙ sym (too_long (first_word front) (omega (arith, long, all, whole)))
+
+pub decides : (is_whole : Bool) (front : List ℕ) (answered : Bool) → (is_whole ≡ true) ⊎ IsWordKnown front → answered ≡ is_for_consumers front → IsWordDecided is_whole front (Some answered)
+decides true front answered known is = sym is
+decides false front answered (inl whole) is = absurd (cc whole)
+decides false front answered (inr known) is = λ rest. stays front rest known ∙ sym is

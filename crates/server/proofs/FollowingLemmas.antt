@@ -11,10 +11,14 @@ use Rattle.archive_model.specs.declared.reply.PolledFrame.{PolledFrame}
 use Rattle.control_core.specs.declared.callers.OpenReplay.{OpenReplay}
 use Rattle.control_core.specs.Exact.{frames_end}
 use Rattle.recording_reads.specs.Settled.{CursorView, seen_to}
+use Rattle.recording_reads.specs.Reading.{GivesShown}
 use Rattle.settled_replays.specs.declared.signs.Sign.{Sign}
+use Rattle.settled_replays.specs.declared.signs.Sign.TheVariants as signs
 use Rattle.settled_replays.specs.Sending.{IsSignBytes, SendsShown, sent_frames}
-use Rattle.server.specs.declared.pushing.FollowedStream.{FollowedStream}
-use Rattle.server.specs.Following.{ArePartsOf, IsSent, IsSentOn, Part, bytes_of_parts, frames, sign}
+use Rattle.server.specs.declared.followed_stream.FollowedStream.{FollowedStream}
+use Rattle.server.specs.declared.pushing.FollowEnd.{FollowEnd}
+use Rattle.server.specs.declared.pushing.FollowEnd.TheVariants as ends
+use Rattle.server.specs.Following.{ArePartsOf, EndsWithSign, IsSent, IsSentOn, IsSentUntil, IsTold, Part, bytes_of_parts, frames, sign}
 
 quiet_then : (a b c : Life) → IsQuiet a b → IsQuiet b c → IsQuiet a c
 quiet_then a b c one two = search rules
@@ -57,3 +61,72 @@ sent_then stream a b c x y z k l m xs ys one two =
 
 pub sent_on_then : (stream : FollowedStream) (a b c : Life) (x y z : CursorView) (k l m : Option (List ℕ)) → IsSentOn stream a b x y k l → IsSentOn stream b c y z l m → IsSentOn stream a c x z k m
 sent_on_then stream a b c x y z k l m (xs, one) (ys, two) = (xs ++ ys, sent_then stream a b c x y z k l m xs ys one two)
+
+-- nothing more was sent, and the reader stands where it stood
+appends_nothing : (a : Option (List ℕ)) → Appends a a []
+appends_nothing None = tt
+appends_nothing (Some a) = sym (append-nil a)
+
+quiet_same : (a : Life) → IsQuiet a a
+quiet_same a = search rules
+
+-- what a sign adds
+pub told_on : (stream : FollowedStream) (life : Life) (cursor : CursorView) (told : Sign) (k l : Option (List ℕ)) → IsTold stream told cursor.replay.next k l
+    → (parts : List Part) × IsSent stream life life cursor cursor k l parts × EndsWithSign stream told parts cursor.replay.next
+told_on stream life cursor told k l (inl (bytes, is, appends)) = (
+  sign told bytes ∷ [],
+  record {
+    appended = subst (Appends k l) (sym (append-nil bytes)) appends;
+    are = (is, refl);
+    replay = refl;
+    descriptor = refl;
+    quiet = quiet_same life;
+  },
+  inl ([], bytes, refl),
+)
+told_on stream life cursor told k l (inr (past, same)) = (
+  [],
+  record {
+    appended = subst (λ (m : Option (List ℕ)). Appends k m []) (sym same) (appends_nothing k);
+    are = refl;
+    replay = refl;
+    descriptor = refl;
+    quiet = quiet_same life;
+  },
+  inr past,
+)
+
+-- what a turn adds
+pub turn_on : (stream : FollowedStream) (a b : Life) (x y : CursorView) (k l : Option (List ℕ)) (sent : List ℕ) (seen most : ℤ) → SendsShown sent b.obeys (reads a.now) (seen_to seen x.known) x.replay most y.replay.next → y.replay ≡ record x.replay { next = y.replay.next } → y.known.descriptor ≡ x.known.descriptor → IsQuiet a b → Appends k l sent → IsSentOn stream a b x y k l
+turn_on stream a b x y k l sent seen most sends replay descriptor quiet appends = (
+  frames seen sends.frames ∷ [],
+  record {
+    appended = subst (Appends k l) (sends.sent ∙ sym (append-nil (sent_frames sends.frames))) appends;
+    are = (most, subst (λ (end : ℤ). IsTrue b.obeys → GivesShown (reads a.now) (seen_to seen x.known) x.replay most sends.frames (unsigned_abs end)) sends.next sends.shown, sends.next);
+    replay = replay;
+    descriptor = descriptor;
+    quiet = quiet;
+  },
+)
+
+-- what a refused turn adds: nothing
+pub nothing_on : (stream : FollowedStream) (a b : Life) (x y : CursorView) (k : Option (List ℕ)) → y.replay ≡ x.replay → y.known.descriptor ≡ x.known.descriptor → IsQuiet a b → IsSentOn stream a b x y k k
+nothing_on stream a b x y k replay descriptor quiet = (
+  [],
+  record {
+    appended = appends_nothing k;
+    are = ap (λ (r : OpenReplay). r.next) replay;
+    replay = replay ∙ ap (λ (n : ℤ). record x.replay { next = n }) (sym (ap (λ (r : OpenReplay). r.next) replay));
+    descriptor = descriptor;
+    quiet = quiet;
+  },
+)
+
+-- the end comes behind all that
+pub until_then : (end : FollowEnd) (stream : FollowedStream) (a b c : Life) (x y z : CursorView) (k l m : Option (List ℕ)) → IsSentOn stream a b x y k l → IsSentUntil end stream b c y z l m → IsSentUntil end stream a c x z k m
+until_then ends.Done stream a b c x y z k l m (xs, one) (ys, two, inl (front, bytes, is)) = (xs ++ ys, sent_then stream a b c x y z k l m xs ys one two, inl (xs ++ front, bytes, ap (λ (w : List Part). xs ++ w) is ∙ sym (append_assoc xs front (sign signs.Ended bytes ∷ []))))
+until_then ends.Done stream a b c x y z k l m (xs, one) (ys, two, inr past) = (xs ++ ys, sent_then stream a b c x y z k l m xs ys one two, inr past)
+until_then (ends.Failed refusal) stream a b c x y z k l m (xs, one) (ys, two, inl (front, bytes, is)) = (xs ++ ys, sent_then stream a b c x y z k l m xs ys one two, inl (xs ++ front, bytes, ap (λ (w : List Part). xs ++ w) is ∙ sym (append_assoc xs front (sign signs.Failed bytes ∷ []))))
+until_then (ends.Failed refusal) stream a b c x y z k l m (xs, one) (ys, two, inr past) = (xs ++ ys, sent_then stream a b c x y z k l m xs ys one two, inr past)
+until_then ends.Stopped stream a b c x y z k l m (xs, one) (ys, two, so) = (xs ++ ys, sent_then stream a b c x y z k l m xs ys one two, tt)
+until_then ends.Gone stream a b c x y z k l m one two = tt

@@ -14,7 +14,7 @@ use Rattle.settled_replays.specs.declared.signs.Sign.TheVariants as signs
 use Rattle.settled_replays.specs.Sending.{IsSignBytes, is_in_terms, sent_frames}
 use Rattle.server.specs.declared.pushing.FollowEnd.{FollowEnd}
 use Rattle.server.specs.declared.pushing.FollowEnd.TheVariants as ends
-use Rattle.server.specs.declared.pushing.FollowedStream.{FollowedStream}
+use Rattle.server.specs.declared.followed_stream.FollowedStream.{FollowedStream}
 
 -- a part of it: frames, up to what was seen then, or a heartbeat's bytes
 pub data Part : Type 0 where

@@ -1,4 +1,4 @@
--- Where the lines `images` and `follow` are in what a client sends: docs/SERVING.md, "Which images there are" and "Followers".
+-- Where the lines `images` and `follow` are in what a client sends: docs/SERVING.md, "Which images there are" and "Consumers".
 use Rattle.std.specs.Prelude.{◌+◌, ◌&&◌, ◌||◌, ◌==◌, ℕ, Bool, List, [], ◌∷◌, bytes_eq, codes, length, nat_eq, nat_le, nat_lt, not, take, if◌then◌else◌}
 use Rattle.std.specs.List.{list_any, starts_with}
 use Rattle.server.specs.declared.script_reader.OwnLines.{OwnLines}

@@ -1,8 +1,8 @@
 //! What a consumer sends, with an empty line in the place of each line that its port does not answer. docs/SERVING.md,
 //! "Consumers".
 
-ghost use Rattle.std.specs.Prelude.{◌≡◌, ◌≤◌, ◌<◌, IsNone, length, vec_len};
-ghost use Rattle.server.specs.ConsumerLines.{IsDecided, first_word, is_consumer_word, is_for_consumers};
+ghost use Rattle.std.specs.Prelude.{◌≡◌, ◌≤◌, ◌<◌, IfNone, IfSome, IsFalse, IsTrue, false, true, length, vec_len};
+ghost use Rattle.server.specs.ConsumerLines.{IsWordDecided, IsWordKnown, first_word, is_consumer_word, is_for_consumers};
 
 use memchr::memchr;
 use std::alloc::{AllocError, Global};
@@ -94,7 +94,9 @@ impl<I: Read> ConsumerReader<I> {
     fn pass(&mut self, buf: &mut [u8]) -> usize
         ensures { result ≤ length buf.new }
     {
-        let count = line_length(self.waiting()).min(buf.len());
+        let count = line_length(self.waiting())
+            .min(buf.len())
+            .min(self.to - self.from);
         let end = self.from + count;
         buf[..count].copy_from_slice(&self.buffer[self.from..end]);
         if count > 0 && self.buffer[end - 1] == b'\n' {
@@ -107,7 +109,7 @@ impl<I: Read> ConsumerReader<I> {
     /// Passes over bytes of the line up to its end. Whether that was there, or no more comes.
     fn skip(&mut self) -> bool {
         let has_end = memchr(b'\n', self.waiting()).is_some() || self.has_ended;
-        let count = line_length(self.waiting());
+        let count = line_length(self.waiting()).min(self.to - self.from);
         self.from += count;
         if has_end {
             self.course = Course::Begins;
@@ -116,7 +118,9 @@ impl<I: Read> ConsumerReader<I> {
     }
 
     /// Gives what is known to be given now: how many bytes. None if more has to be read first.
-    fn given(&mut self, buf: &mut [u8]) -> Option<usize> {
+    fn given(&mut self, buf: &mut [u8]) -> Option<usize>
+        ensures { IfSome result (λ count. count ≤ length buf.new) }
+    {
         if self.course == Course::Begins {
             self.begin();
         }
@@ -129,7 +133,9 @@ impl<I: Read> ConsumerReader<I> {
     }
 
     /// Passes over bytes of the line up to its end, and gives an empty line there.
-    fn skipped(&mut self, buf: &mut [u8]) -> Option<usize> {
+    fn skipped(&mut self, buf: &mut [u8]) -> Option<usize>
+        ensures { IfSome result (λ count. count ≤ length buf.new) }
+    {
         if !self.skip() {
             return None;
         }
@@ -169,15 +175,29 @@ fn line_length(bytes: &[u8]) -> usize
 
 /// Whether a port of consumers answers a line that begins with these bytes, if that is known: all of it is there, or its first
 /// word is, or more than the longest word.
-#[tactic(auto, using(crate::proofs::ConsumerLemmas::stays))]
+#[tactic(auto, using(crate::proofs::ConsumerLemmas::decides))]
 fn decided(front: &[u8], is_whole: bool) -> Option<bool>
-    ensures decided { IsDecided is_whole front.now result }
-    ensures short { IsNone result → length front.now < 10 }
+    ensures decided { IsWordDecided is_whole front.now result }
+    ensures short { IfNone result (length front.now < 10) }
 {
-    if is_whole || memchr(b' ', front).is_some() || front.len() > LONGEST_WORD {
-        Some(is_for_consumers(front))
-    } else {
-        None
+    if is_whole {
+        return Some(is_for_consumers(front));
+    }
+    if is_known(front) {
+        return Some(is_for_consumers(front));
+    }
+    None
+}
+
+/// Whether bytes have the first word of their line, or are too many for a word that is answered.
+#[tactic(auto, using(crate::proofs::ConsumerLemmas::word_ends))]
+fn is_known(front: &[u8]) -> bool
+    ensures known { IsTrue result → IsWordKnown front.now }
+    ensures short { IsFalse result → length front.now < 10 }
+{
+    match memchr(b' ', front) {
+        Some(_) => true,
+        None => front.len() > LONGEST_WORD,
     }
 }
 

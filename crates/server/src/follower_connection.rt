@@ -1,4 +1,4 @@
-//! A follower's connection, which ends if the follower takes too little of what is there. docs/SERVING.md, "Followers".
+//! A follower's connection, which ends if the follower takes too little of what is there. docs/SERVING.md, "Consumers".
 
 use crate::client::is_late;
 use crate::connections::Connections;

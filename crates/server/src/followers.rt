@@ -1,4 +1,4 @@
-//! Who is sent the frames of a replay, and by which of the archive's replays. docs/SERVING.md, "Followers".
+//! Who is sent the frames of a replay, and by which of the archive's replays. docs/SERVING.md, "Consumers".
 
 use control_lines::FollowFields;
 use frame_core::Refusal;

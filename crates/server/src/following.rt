@@ -1,12 +1,13 @@
-//! The threads that send followers the frames of replays, read beside the archive's lock. docs/SERVING.md, "Followers".
+//! The threads that send followers the frames of replays, read beside the archive's lock. docs/SERVING.md, "Consumers".
 
-ghost use Rattle.std.specs.Prelude.{◌≡◌, IfErr, IfOk};
+ghost use Rattle.std.specs.Prelude.{◌≡◌, ◌≤ℤ◌, IfErr, IfOk};
 ghost use Rattle.server.specs.Clients.{IsBack};
 
 use crate::connections::Connections;
+use crate::followed_stream::FollowedStream;
 use crate::follower_connection::{FollowerConnection, FollowerWriter};
 use crate::openings::Openings;
-use crate::pushing::{FollowEnd, FollowedStream, send_all};
+use crate::pushing::{FollowEnd, send_all};
 use archive_lock::{Made, Naming, SharedArchive};
 use archive_model::Descriptor;
 use call_history::Pass;

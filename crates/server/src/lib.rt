@@ -9,6 +9,7 @@ mod consumer;
 mod consumer_reader;
 mod ends;
 mod first_bytes;
+mod followed_stream;
 mod follower_connection;
 mod followers;
 mod following;

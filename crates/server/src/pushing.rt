@@ -1,14 +1,14 @@
-//! What a follower is sent: frames as they are settled, and heartbeats. docs/PROTOCOL.md, "Followers".
+//! What a follower is sent: frames as they are settled, and heartbeats. docs/PROTOCOL.md, "Following a recording".
 
 ghost use Rattle.std.specs.Prelude.{◌≡◌, IsTrue, MatchOption};
 ghost use Rattle.server.specs.Following.{IsSentOn, IsSentUntil, IsTold};
 
+use crate::followed_stream::FollowedStream;
 use crate::follower_connection::FollowerConnection;
 use crate::following::Following;
 use archive_lock::Naming;
-use archive_model::Descriptor;
 use disk_core::Disk;
-use frame_core::{Geometry, Publication, Refusal};
+use frame_core::Refusal;
 use server_state::Reporter;
 use settled_replays::{SentFrames, SettledReplayer, Sign, sign_at};
 use std::io::Write;
@@ -19,11 +19,8 @@ use std::time::{Duration, Instant};
 /// Milliseconds for which a thread waits for frames at once at most, so that a heartbeat goes out each 100.
 const LOOK: u64 = 80;
 
-/// Bytes of frames that are read at once, about.
-const READ_AT_ONCE: i64 = 1_048_576;
-
 /// How a follower's frames ended.
-#[derive(Clone, Copy, Debug, PartialEq, Eq)]
+#[derive(Clone, Copy)]
 pub(crate) enum FollowEnd {
     /// It was told that no frame comes any more.
     Done,
@@ -33,36 +30,6 @@ pub(crate) enum FollowEnd {
     Stopped,
     /// The connection is gone, or took too little: how much of what was written last went out isn't known.
     Gone,
-}
-
-/// What is followed: of which stream heartbeats are, and how many frames are read at once at most.
-#[derive(Clone, Copy)]
-pub(crate) struct FollowedStream {
-    pub geometry: Geometry,
-    pub publication: Publication,
-    pub most: i64,
-}
-
-impl FollowedStream {
-    ghost use Rattle.archive_model.specs.State.{geometry_of};
-
-    /// That of a recording.
-    pub fn of(descriptor: &Descriptor) -> FollowedStream
-        ensures geometry { result.geometry ≡ geometry_of descriptor.now }
-        ensures publication { result.publication ≡ record {
-          session_id = descriptor.now.session_id;
-          stream_id = descriptor.now.stream_id;
-        } }
-    {
-        FollowedStream {
-            geometry: descriptor.geometry(),
-            publication: Publication {
-                session_id: descriptor.session_id,
-                stream_id: descriptor.stream_id,
-            },
-            most: (READ_AT_ONCE / i64::from(descriptor.mtu.max(1))).clamp(1, 4_096),
-        }
-    }
 }
 
 /// Sends the frames of a replay as they are settled, and a heartbeat each 100 milliseconds while nothing comes, until there is no

@@ -1,5 +1,5 @@
 //! What a client sends up to a line `images` or `follow`, which the server answers by itself. docs/SERVING.md, "Which images there
-//! are" and "Followers".
+//! are" and "Consumers".
 
 ghost use Rattle.std.specs.Prelude.{◌≡◌, ◌≤◌, ◌==◌, bytes_eq, codes, length, take, vec_len};
 ghost use Rattle.std.specs.List.{list_any};

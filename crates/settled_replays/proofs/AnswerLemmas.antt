@@ -134,4 +134,4 @@ pub positions_told : {D : Type 0} (life : D → Life) (opening : EngineState) (p
     → (start recorded stop : ℤ) × (reply ≡ replies.Positions start recorded stop)
 positions_told life opening p q id reply ends =
     let step = call_step life opening p q (Ask (Positions id)) (Ok reply) (ends tt) in
-    let is = told_positions step.0 step.1 id (plain (Ok reply)) step.2 in (is.0, is.1, is.2.0, ap reply_told is.2.1)
+    let is = told_positions step.0 step.1 id (plain (Ok reply)) step.2 in (is.0, is.1, is.2, ap reply_told is.3)

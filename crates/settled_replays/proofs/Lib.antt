@@ -1,2 +1,4 @@
 mod AnswerLemmas
+mod OpeningLemmas
 mod SendingLemmas
+mod TurnLemmas

@@ -1,5 +1,7 @@
 -- The bytes of frames that were taken one after another.
-use Rattle.std.proofs.Common.{◌≡◌, ◌∙◌, ◌++◌, ℕ, ℤ, Bool, List, [], ◌∷◌, sym, refl, ap, subst}
+use Rattle.std.proofs.Common.{◌≡◌, ◌∙◌, ◌++◌, ℕ, ℤ, Bool, List, [], ◌∷◌, Result, Ok, Err, sym, refl, ap, subst}
+use Rattle.std.specs.Prelude.{OnOk}
+use Rattle.frame_core.specs.declared.refusal.Refusal.{Refusal}
 use Rattle.std.proofs.lemmas.List.{append-nil, append_assoc}
 use Rattle.disk_core.specs.DiskImage.{DiskImage}
 use Rattle.frame_core.specs.declared.frame.Frame.{Frame}
@@ -20,3 +22,8 @@ taken_bytes old new (f ∷ fs) (mid, takes, rest) = taken_bytes mid new fs rest 
 -- what is handed on to bytes that were none is sent
 pub sends_shown : (new : List ℕ) (obeys : Bool) (image : DiskImage) (g : Registration) (replay : OpenReplay) (most end : ℤ) → HandsShown takes_stored [] new obeys image g replay most end → SendsShown new obeys image g replay most end
 sends_shown new obeys image g replay most end h = record { frames = h.frames; sent = taken_bytes [] new h.frames h.taken; shown = h.shown; begin = h.begin; next = h.next }
+
+-- the same, if it was handed on
+pub sends_if : (result : Result (Unit {0}) Refusal) (old new : List ℕ) (obeys : Bool) (image : DiskImage) (g : Registration) (replay : OpenReplay) (most end : ℤ) → old ≡ [] → OnOk result (HandsShown takes_stored old new obeys image g replay most end) → OnOk result (SendsShown new obeys image g replay most end)
+sends_if (Ok done) old new obeys image g replay most end none h = sends_shown new obeys image g replay most end (subst (λ (b : List ℕ). HandsShown takes_stored b new obeys image g replay most end) none h)
+sends_if (Err refusal) old new obeys image g replay most end none h = tt

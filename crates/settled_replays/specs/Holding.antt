@@ -17,7 +17,7 @@ use Rattle.settled_replays.specs.declared.calls.Seen.{Seen}
 
 -- A pass, and the replay that it opened: the recording, the replay's number, and where it was opened. And how far the
 -- recording was seen to be recorded, and whether it was active then.
-pub record HeldView : Type 0 where
+pub record HeldReplayView : Type 0 where
   pub pass : PassView Made
   pub recording : ℤ
   pub number : ℤ
@@ -42,41 +42,41 @@ is_unstopped seen = int_eq seen.stop (negsuc 0)
 module _ {D : Type 0} (life : D → Life) (opening : EngineState) where
   -- A pass asks for this and is answered so: what it has seen is a legal history that ends with this call. Want of memory is no
   -- call, and then it is as it was.
-  pub record Asks (old : PassView Made) (event : Event) (outcome : Result Reply Refusal) (new : PassView Made) : Type 0 where
+  pub record PassAsks (old : PassView Made) (event : Event) (outcome : Result Reply Refusal) (new : PassView Made) : Type 0 where
     pub answers : IsNoted outcome → EndsWithAnswer life opening old event outcome new
     pub unnoted : IsErrOf outcome NoMemory → new ≡ old
 
   -- a replay of a recording is opened at a position, for a length in bytes of the stream, and has this number
-  abbrev pub Opens : PassView Made → ℤ → ℤ → ℤ → ℤ → PassView Made → Type 0
-  Opens old recording position size number new = Asks old (ReplayOpen recording position size) (Ok (ReplayOpened number)) new
+  abbrev pub OpensReplay : PassView Made → ℤ → ℤ → ℤ → ℤ → PassView Made → Type 0
+  OpensReplay old recording position size number new = PassAsks old (ReplayOpen recording position size) (Ok (ReplayOpened number)) new
 
   -- a replay is closed by a call, however that is answered
-  abbrev pub Closes : PassView Made → ℤ → PassView Made → Type 0
-  Closes old number new = (outcome : Result Reply Refusal) × Asks old (ReplayClose number) outcome new
+  abbrev pub ClosesHeld : PassView Made → ℤ → PassView Made → Type 0
+  ClosesHeld old number new = (outcome : Result Reply Refusal) × PassAsks old (ReplayClose number) outcome new
 
   -- a recording's positions are asked for, by one call, and this is answered
   abbrev pub AsksPositions : PassView Made → ℤ → Result Seen Refusal → PassView Made → Type 0
-  AsksPositions old recording answer new = Asks old (Ask (Positions recording)) (positions_outcome answer) new
+  AsksPositions old recording answer new = PassAsks old (Ask (Positions recording)) (positions_outcome answer) new
 
   -- A replay further on was opened first, and then the one before was closed: at no call between was there none.
-  pub record MovesOn (old new : HeldView) (position size : ℤ) : Type 0 where
+  pub record MovesReplayOn (old new : HeldReplayView) (position size : ℤ) : Type 0 where
     pub mid : PassView Made
-    pub opens : Opens old.pass old.recording position size new.number mid
-    pub closes : Closes mid old.number new.pass
+    pub opens : OpensReplay old.pass old.recording position size new.number mid
+    pub closes : ClosesHeld mid old.number new.pass
     pub same : new ≡ record old { pass = new.pass; number = new.number; from = position }
 
   -- An opening was refused, and the replay before it stays.
-  pub record StaysHeld (old new : HeldView) (position size : ℤ) (refusal : Refusal) : Type 0 where
-    pub asks : Asks old.pass (ReplayOpen old.recording position size) (Err refusal) new.pass
+  pub record StaysHeld (old new : HeldReplayView) (position size : ℤ) (refusal : Refusal) : Type 0 where
+    pub asks : PassAsks old.pass (ReplayOpen old.recording position size) (Err refusal) new.pass
     pub same : new ≡ record old { pass = new.pass }
 
   -- The positions of its own recording were asked for: it is seen to be recorded up to what was answered.
-  pub record Looks (old new : HeldView) : Type 0 where
+  pub record LooksAgain (old new : HeldReplayView) : Type 0 where
     pub positions : Seen
     pub asks : AsksPositions old.pass old.recording (Ok positions) new.pass
     pub same : new ≡ record old { pass = new.pass; seen = positions.recorded; is_active = is_unstopped positions }
 
   -- they were asked for, and refused: nothing more was seen
-  pub record SeesNothing (old new : HeldView) (refusal : Refusal) : Type 0 where
+  pub record SeesNothing (old new : HeldReplayView) (refusal : Refusal) : Type 0 where
     pub asks : AsksPositions old.pass old.recording (Err refusal) new.pass
     pub same : new ≡ record old { pass = new.pass }

@@ -14,7 +14,7 @@ use Rattle.control_core.specs.declared.callers.OpenReplay.{OpenReplay}
 use Rattle.engine_core.specs.Engine.{EngineState}
 use Rattle.recording_reads.specs.Reading.{GivesShown}
 use Rattle.recording_reads.specs.Settled.{CursorView, RefusesTurn}
-use Rattle.settled_replays.specs.Holding.{HeldView, Looks, MovesOn, SeesNothing, StaysHeld}
+use Rattle.settled_replays.specs.Holding.{HeldReplayView, LooksAgain, MovesReplayOn, SeesNothing, StaysHeld}
 
 -- where the segment of a position begins, of a recording that has terms and begins at the position or before it
 abbrev pub segment_in : Layout → ℤ → Option ℤ
@@ -35,39 +35,39 @@ opened_for d position =
     then pos (max (unsigned_abs d.start_position) (unsigned_abs position - unsigned_abs position % unsigned_abs d.term_length)) else position
 
 -- a replay of a recording, from a position to a bound
-abbrev pub replay_from : HeldView → ℤ → ℤ → OpenReplay
+abbrev pub replay_from : HeldReplayView → ℤ → ℤ → OpenReplay
 replay_from held next bound = record { number = held.number; recording = held.recording; next = next; bound = bound }
 
 -- A frame begins at a position, or the recording is recorded up to there: it is where the replay was opened, or the frames from
 -- there on that the disk shows, one after another, reach it.
-pub record IsReached (obeys : Bool) (image : DiskImage) (known : Registration) (held : HeldView) (position : ℤ) : Type 0 where
+pub record ReachesFrame (obeys : Bool) (image : DiskImage) (known : Registration) (held : HeldReplayView) (position : ℤ) : Type 0 where
   pub reached : (position ≡ held.from) ⊎ (position ≡ known.recorded)
       ⊎ (IsTrue obeys → (most : ℤ) × (frames : List PolledFrame) × GivesShown image known (replay_from held held.from position) most frames (unsigned_abs position))
 
 -- A reader begins at a position of its replay's recording, as recorded up to where that was seen to be: a frame begins there. It
 -- ends where a replay of that length does.
-pub record BeginsAt (obeys : Bool) (image : DiskImage) (d : Descriptor) (position size : ℤ) (held : HeldView) (cursor : CursorView) : Type 0 where
+pub record BeginsReading (obeys : Bool) (image : DiskImage) (d : Descriptor) (position size : ℤ) (held : HeldReplayView) (cursor : CursorView) : Type 0 where
   pub known : cursor.known ≡ record { descriptor = d; recorded = held.seen }
   pub bound : ℤ
   pub bound_is : negsuc 0 ≤ℤ size → bound ≡ bound_of position size
   pub replay : cursor.replay ≡ replay_from held position bound
-  pub frame : IsReached obeys image cursor.known held position
+  pub frame : ReachesFrame obeys image cursor.known held position
 
 module _ {D : Type 0} (life : D → Life) (opening : EngineState) where
   -- Where all that was seen is not read yet, nothing is asked. Else its own recording's positions are asked for, by one call.
-  abbrev pub LooksIfRead : HeldView → ℤ → HeldView → Type 0
-  LooksIfRead old next new = MatchBool (int_lt next old.seen) (new ≡ old) (Looks life opening old new)
+  abbrev pub LooksIfRead : HeldReplayView → ℤ → HeldReplayView → Type 0
+  LooksIfRead old next new = MatchBool (int_lt next old.seen) (new ≡ old) (LooksAgain life opening old new)
 
   -- The replay moves on to where a segment begins, with no end, if that is further on than where it was opened; or the opening
   -- there is refused, and it stays.
-  abbrev pub KeepsUp : HeldView → Option ℤ → HeldView → Type 0
+  abbrev pub KeepsUp : HeldReplayView → Option ℤ → HeldReplayView → Type 0
   KeepsUp old None new = new ≡ old
   KeepsUp old (Some base) new = MatchBool (int_lt old.from base)
-      (MovesOn life opening old new base (negsuc 0) ⊎ ((refusal : Refusal) × StaysHeld life opening old new base (negsuc 0) refusal))
+      (MovesReplayOn life opening old new base (negsuc 0) ⊎ ((refusal : Refusal) × StaysHeld life opening old new base (negsuc 0) refusal))
       (new ≡ old)
 
   -- Why nothing is handed on: the look was refused, and nothing was read; or it was made, and the reading was refused.
-  abbrev pub RefusesReading : {T : Type 0} → (T → ℤ → Frame → T → Type 0) → (T → T → Type 0) → T → T → Bool → DiskImage → ℤ → HeldView → HeldView → CursorView → CursorView → Refusal → Type 0
+  abbrev pub RefusesReading : {T : Type 0} → (T → ℤ → Frame → T → Type 0) → (T → T → Type 0) → T → T → Bool → DiskImage → ℤ → HeldReplayView → HeldReplayView → CursorView → CursorView → Refusal → Type 0
   RefusesReading takes leaves taker taker' obeys image most old new before after refusal =
       (SeesNothing life opening old new refusal × (taker' ≡ taker) × (after ≡ before))
       ⊎ (LooksIfRead old before.replay.next new × RefusesTurn takes leaves taker taker' obeys image new.seen most before after refusal)

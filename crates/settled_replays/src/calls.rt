@@ -6,7 +6,7 @@ ghost use Rattle.archive_model.specs.declared.reply.Reply.{Reply};
 ghost use Rattle.archive_model.specs.declared.reply.Reply.TheVariants.{Positions as PositionsReply, ReplayOpened};
 ghost use Rattle.control_core.specs.declared.event.Event.TheVariants.{Ask, ReplayClose, ReplayOpen};
 ghost use Rattle.control_core.specs.declared.request.Request.TheVariants.{List};
-ghost use Rattle.settled_replays.specs.Holding.{Asks, AsksPositions, Closes, is_unstopped, opening_outcome};
+ghost use Rattle.settled_replays.specs.Holding.{PassAsks, AsksPositions, ClosesHeld, is_unstopped, opening_outcome};
 
 use archive_lock::{Made, Naming, SharedArchive};
 use archive_model::{Descriptor, Reply};
@@ -49,7 +49,7 @@ pub(crate) fn opened<D: Disk, A: Naming, R: Wait>(
     length: i64,
 ) -> Result<i64, Refusal>
     requires { pass.old.table ≡ A.table }
-    ensures asks { Asks D.life A.opening pass.old (ReplayOpen recording position length) (opening_outcome result) pass.new }
+    ensures asks { PassAsks D.life A.opening pass.old (ReplayOpen recording position length) (opening_outcome result) pass.new }
     ensures pass { (pass.new.table ≡ pass.old.table) × (pass.new.number ≡ pass.old.number) }
 {
     let event = Event::ReplayOpen {
@@ -81,7 +81,7 @@ pub(crate) fn close<D: Disk, A: Naming, R: Wait>(
     replay: i64,
 )
     requires { pass.old.table ≡ A.table }
-    ensures closes { Closes D.life A.opening pass.old replay pass.new }
+    ensures closes { ClosesHeld D.life A.opening pass.old replay pass.new }
     ensures pass { (pass.new.table ≡ pass.old.table) × (pass.new.number ≡ pass.old.number) }
 {
     let _ = archive.call(rt, alloc, pass, &Event::ReplayClose { replay });
@@ -114,7 +114,7 @@ pub fn described<D: Disk, A: Naming, R: Wait>(
     recording: i64,
 ) -> Result<Descriptor, Refusal>
     requires { pass.old.table ≡ A.table }
-    ensures asks { (outcome : Result Reply Refusal) × Asks D.life A.opening pass.old (Ask (List recording (pos 1))) outcome pass.new }
+    ensures asks { (outcome : Result Reply Refusal) × PassAsks D.life A.opening pass.old (Ask (List recording (pos 1))) outcome pass.new }
     ensures recording { IfOk result (λ d. d.recording ≡ recording) }
     ensures pass { (pass.new.table ≡ pass.old.table) × (pass.new.number ≡ pass.old.number) }
 {

@@ -2,7 +2,7 @@
 
 ghost use Rattle.std.specs.Prelude.{◌≡◌, Err, IfErr, IfOk, OnErr, OnOk, true};
 ghost use Rattle.control_core.specs.declared.event.Event.TheVariants.{ReplayOpen};
-ghost use Rattle.settled_replays.specs.Holding.{Asks, Closes, Looks, MovesOn, Opens, SeesNothing, StaysHeld};
+ghost use Rattle.settled_replays.specs.Holding.{PassAsks, ClosesHeld, LooksAgain, MovesReplayOn, OpensReplay, SeesNothing, StaysHeld};
 ghost use Rattle.settled_replays.specs.Reading.{KeepsUp, LooksIfRead};
 
 use crate::calls::{close, opened, positions_of};
@@ -27,9 +27,9 @@ pub struct HeldReplay {
 }
 
 impl Model for HeldReplay {
-    ghost use Rattle.settled_replays.specs.Holding.{HeldView};
+    ghost use Rattle.settled_replays.specs.Holding.{HeldReplayView};
 
-    ghost Value = { HeldView };
+    ghost Value = { HeldReplayView };
 
     ghost view = { λ h. record {
       pass = h.pass;
@@ -65,7 +65,7 @@ impl HeldReplay {
         length: i64,
     ) -> Result<HeldReplay, Unopened>
         requires { pass.table ≡ A.table }
-        ensures opens { IfOk result (λ held. Opens D.life A.opening pass recording position length held.number held.pass) }
+        ensures opens { IfOk result (λ held. OpensReplay D.life A.opening pass recording position length held.number held.pass) }
         ensures held { IfOk result (λ held. held ≡ record {
           pass = held.pass;
           recording = recording;
@@ -74,7 +74,7 @@ impl HeldReplay {
           seen = position;
           is_active = true;
         }) }
-        ensures refused { IfErr result (λ un. Asks D.life A.opening pass (ReplayOpen recording position length) (Err un.refusal) un.pass) }
+        ensures refused { IfErr result (λ un. PassAsks D.life A.opening pass (ReplayOpen recording position length) (Err un.refusal) un.pass) }
         ensures pass { IfOk result (λ held. (held.pass.table ≡ pass.table) × (held.pass.number ≡ pass.number)) }
         ensures back { IfErr result (λ un. (un.pass.table ≡ pass.table) × (un.pass.number ≡ pass.number)) }
     {
@@ -136,7 +136,7 @@ impl HeldReplay {
         archive: &SharedArchive<D, A>,
     ) -> Result<(), Refusal>
         requires { self.old.pass.table ≡ A.table }
-        ensures looks { OnOk result (Looks D.life A.opening self.old self.new) }
+        ensures looks { OnOk result (LooksAgain D.life A.opening self.old self.new) }
         ensures refused { IfErr result (SeesNothing D.life A.opening self.old self.new) }
         ensures pass { (self.new.pass.table ≡ self.old.pass.table) × (self.new.pass.number ≡ self.old.pass.number) }
     {
@@ -203,7 +203,7 @@ impl HeldReplay {
         length: i64,
     ) -> Result<(), Refusal>
         requires { self.old.pass.table ≡ A.table }
-        ensures moves { OnOk result (MovesOn D.life A.opening self.old self.new position length) }
+        ensures moves { OnOk result (MovesReplayOn D.life A.opening self.old self.new position length) }
         ensures stays { IfErr result (StaysHeld D.life A.opening self.old self.new position length) }
         ensures pass { (self.new.pass.table ≡ self.old.pass.table) × (self.new.pass.number ≡ self.old.pass.number) }
     {
@@ -230,7 +230,7 @@ impl HeldReplay {
         archive: &SharedArchive<D, A>,
     ) -> Pass<Made>
         requires { self.pass.table ≡ A.table }
-        ensures closes { Closes D.life A.opening self.pass self.number result }
+        ensures closes { ClosesHeld D.life A.opening self.pass self.number result }
         ensures pass { (result.table ≡ self.pass.table) × (result.number ≡ self.pass.number) }
     {
         let HeldReplay {

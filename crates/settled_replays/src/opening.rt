@@ -3,7 +3,7 @@
 ghost use Rattle.std.specs.Prelude.{◌≡◌, ◌≤ℤ◌, ◌⊎◌, [], IfErr, IfOk};
 ghost use Rattle.disk_core.specs.DiskImage.{reads};
 ghost use Rattle.replay_core.specs.Pages.{kept};
-ghost use Rattle.settled_replays.specs.Reading.{BeginsAt, IsReached, opened_for, replay_from};
+ghost use Rattle.settled_replays.specs.Reading.{BeginsReading, ReachesFrame, opened_for, replay_from};
 
 use crate::held::{HeldReplay, Unopened};
 use crate::replayer::SettledReplayer;
@@ -112,7 +112,7 @@ impl<E: Disk + Drop> SettledReplayer<E> {
         requires table { held.pass.table ≡ A.table }
         requires recording { held.recording ≡ descriptor.recording }
         requires protected { held.from ≤ℤ position }
-        ensures begins { IfOk result (λ r. BeginsAt (E.life r.reader.disk).obeys (reads (E.life disk).now) descriptor
+        ensures begins { IfOk result (λ r. BeginsReading (E.life r.reader.disk).obeys (reads (E.life disk).now) descriptor
             position length r.held r.reader.cursor) }
         ensures pass { IfOk result (λ r. (r.held.pass.table ≡ held.pass.table) × (r.held.pass.number ≡ held.pass.number)) }
         ensures back { IfErr result (λ un. (un.held.pass.table ≡ held.pass.table) × (un.held.pass.number ≡ held.pass.number)) }
@@ -145,7 +145,7 @@ fn begun_at<E: Disk + Drop>(
     length: i64,
 ) -> Result<Begun<E>, Refusal>
     requires { held.now.recording ≡ descriptor.recording }
-    ensures begins { IfOk result (λ b. BeginsAt (E.life b.disk).obeys (reads (E.life disk).now) descriptor
+    ensures begins { IfOk result (λ b. BeginsReading (E.life b.disk).obeys (reads (E.life disk).now) descriptor
         position length held.now b.cursor) }
     ensures pages { IfOk result (λ b. kept b.pages ≡ []) }
 {
@@ -178,7 +178,7 @@ fn reached<E: Disk + Drop>(
     position: i64,
 ) -> Result<E, Refusal>
     requires { known.recorded ≡ held.now.seen }
-    ensures { IfOk result (λ after. IsReached (E.life after).obeys (reads (E.life disk).now) known held.now position) }
+    ensures { IfOk result (λ after. ReachesFrame (E.life after).obeys (reads (E.life disk).now) known held.now position) }
 {
     if position == held.from() || position == held.seen() {
         return Ok(disk);

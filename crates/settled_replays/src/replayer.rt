@@ -1,6 +1,6 @@
 //! A replay of a shared archive whose frames are read beside its lock. docs/CONTROL.md, "Replays".
 
-ghost use Rattle.std.specs.Prelude.{◌≡◌, ◌≤ℤ◌, [], IfErr, IsErrOf, OnOk};
+ghost use Rattle.std.specs.Prelude.{◌≡◌, ◌⊎◌, ◌≤ℤ◌, [], pos, IfErr, IsErrOf, OnOk};
 ghost use Rattle.frame_core.specs.ReplayEnd.{is_done};
 ghost use Rattle.frame_core.specs.declared.refusal.Refusal.TheVariants.{DeviceFault};
 ghost use Rattle.disk_core.specs.DiskImage.{reads};
@@ -9,7 +9,7 @@ ghost use Rattle.replay_core.specs.Pages.{kept};
 ghost use Rattle.recording_reads.specs.Handing.{HandsShown};
 ghost use Rattle.recording_reads.specs.Recording.{layout_of};
 ghost use Rattle.recording_reads.specs.Settled.{seen_to};
-ghost use Rattle.settled_replays.specs.Holding.{Closes};
+ghost use Rattle.settled_replays.specs.Holding.{ClosesHeld, SeesNothing};
 ghost use Rattle.settled_replays.specs.Reading.{KeepsUp, LooksIfRead, RefusesReading, is_ahead, segment_in};
 
 use crate::held::HeldReplay;
@@ -67,7 +67,8 @@ impl<E: Disk + Drop> SettledReplayer<E> {
         most: i64,
         taker: &mut T,
     ) -> Result<(), Refusal>
-        requires { self.old.held.pass.table ≡ A.table }
+        requires table { self.old.held.pass.table ≡ A.table }
+        requires some { pos 1 ≤ℤ most }
         ensures handed { OnOk result (HandsShown T.takes taker.old taker.new (E.life self.new.reader.disk).obeys
             (reads (E.life self.old.reader.disk).now) (seen_to self.new.held.seen self.old.reader.cursor.known)
             self.old.reader.cursor.replay most self.new.reader.cursor.replay.next) }
@@ -80,8 +81,8 @@ impl<E: Disk + Drop> SettledReplayer<E> {
         ensures pass { (self.new.held.pass.table ≡ self.old.held.pass.table)
             × (self.new.held.pass.number ≡ self.old.held.pass.number) }
         ensures quiet { IsQuiet (E.life self.old.reader.disk) (E.life self.new.reader.disk) }
-        ensures cause { IsErrOf result DeviceFault →
-            HasFailed (E.life self.old.reader.disk) (E.life self.new.reader.disk) }
+        ensures cause { IsErrOf result DeviceFault → HasFailed (E.life self.old.reader.disk) (E.life self.new.reader.disk)
+            ⊎ SeesNothing D.life A.opening self.old.held self.new.held DeviceFault }
     {
         let next = self.reader.next_position();
         self.held.look_if_read(rt, alloc, archive, next)?;
@@ -153,7 +154,7 @@ impl<E: Disk + Drop> SettledReplayer<E> {
         archive: &SharedArchive<D, A>,
     ) -> Pass<Made>
         requires { self.held.pass.table ≡ A.table }
-        ensures closes { Closes D.life A.opening self.held.pass self.held.number result }
+        ensures closes { ClosesHeld D.life A.opening self.held.pass self.held.number result }
         ensures pass { (result.table ≡ self.held.pass.table) × (result.number ≡ self.held.pass.number) }
     {
         self.held.close(rt, alloc, archive)

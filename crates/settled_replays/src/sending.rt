@@ -1,10 +1,11 @@
-//! What a follower is sent by a turn. docs/PROTOCOL.md, "Followers".
+//! What a follower is sent by a turn. docs/PROTOCOL.md, "Following a recording".
 
-ghost use Rattle.std.specs.Prelude.{◌≡◌, [], IfErr, IsErrOf, OnErr, OnOk};
+ghost use Rattle.std.specs.Prelude.{◌≡◌, ◌⊎◌, ◌≤ℤ◌, [], pos, IsErrOf, OnErr, OnOk};
 ghost use Rattle.frame_core.specs.declared.refusal.Refusal.TheVariants.{DeviceFault};
 ghost use Rattle.disk_core.specs.DiskImage.{reads};
 ghost use Rattle.disk_core.specs.Life.{HasFailed, IsQuiet};
 ghost use Rattle.recording_reads.specs.Settled.{seen_to};
+ghost use Rattle.settled_replays.specs.Holding.{SeesNothing};
 ghost use Rattle.settled_replays.specs.Reading.{LooksIfRead};
 ghost use Rattle.settled_replays.specs.Sending.{SendsShown};
 
@@ -21,7 +22,6 @@ impl<E: Disk + Drop> SettledReplayer<E> {
     /// there: one `turn`.
     ///
     /// Refused as that is; then there are no bytes.
-    #[tactic(auto, using(crate::proofs::SendingLemmas::sends_shown))]
     pub fn send<D: Disk, A: Naming, R: Wait>(
         &mut self,
         rt: &R,
@@ -30,7 +30,8 @@ impl<E: Disk + Drop> SettledReplayer<E> {
         most: i64,
         sent: &mut SentFrames,
     ) -> Result<(), Refusal>
-        requires { self.old.held.pass.table ≡ A.table }
+        requires table { self.old.held.pass.table ≡ A.table }
+        requires some { pos 1 ≤ℤ most }
         ensures sends { OnOk result (SendsShown sent.new (E.life self.new.reader.disk).obeys
             (reads (E.life self.old.reader.disk).now) (seen_to self.new.held.seen self.old.reader.cursor.known)
             self.old.reader.cursor.replay most self.new.reader.cursor.replay.next) }
@@ -41,8 +42,8 @@ impl<E: Disk + Drop> SettledReplayer<E> {
         ensures pass { (self.new.held.pass.table ≡ self.old.held.pass.table)
             × (self.new.held.pass.number ≡ self.old.held.pass.number) }
         ensures quiet { IsQuiet (E.life self.old.reader.disk) (E.life self.new.reader.disk) }
-        ensures cause { IsErrOf result DeviceFault →
-            HasFailed (E.life self.old.reader.disk) (E.life self.new.reader.disk) }
+        ensures cause { IsErrOf result DeviceFault → HasFailed (E.life self.old.reader.disk) (E.life self.new.reader.disk)
+            ⊎ SeesNothing D.life A.opening self.old.held self.new.held DeviceFault }
     {
         sent.clear();
         let turned = self.turn(rt, alloc, archive, most, sent);

@@ -181,14 +181,14 @@ pub(crate) fn groups<D: Disk + Drop, A: Naming, R: Wait + Abort>(
     group.seat.plays(rt, alloc, &archive, BEGUN)?;
     group.write(rt, alloc, &archive, 0)?;
     let positions = group.settle(rt, alloc, &archive)?;
-    assert!(rt; positions.as_slice() == [Some(64), Some(64), None]);
+    assert!(rt; positions.as_slice() == [Some(64), Some(64), None].as_slice());
     assert!(rt; group.sees() == (64, 64));
     group.write(rt, alloc, &archive, 64)?;
     group
         .seat
         .plays(rt, alloc, &archive, "stop 1 2000: stopped 64\n")?;
     let positions = group.settle(rt, alloc, &archive)?;
-    assert!(rt; positions.as_slice() == [Some(128), None, None]);
+    assert!(rt; positions.as_slice() == [Some(128), None, None].as_slice());
     assert!(rt; group.sees() == (128, 64));
     let calls = closed(alloc, archive, group.into_seats(second, third));
     assert!(rt; calls == Some((9, true)));
@@ -249,7 +249,7 @@ pub(crate) fn group_again<D: Disk + Drop, A: Naming, R: Wait + Abort>(
     }
     match answer {
         Ok(positions) => {
-            assert!(rt; positions.as_slice() == [Some(64), Some(64), None]);
+            assert!(rt; positions.as_slice() == [Some(64), Some(64), None].as_slice());
             assert!(rt; group.sees() == (64, 64));
         }
         // The disk in memory found none.

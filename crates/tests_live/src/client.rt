@@ -134,6 +134,16 @@ impl Client {
         true
     }
 
+    /// Sends the setup frames of 64 publications, of the session ids 100 to 163.
+    pub(crate) fn casts_setups(&self) -> bool {
+        for session_id in 100..164 {
+            if !self.casts(setup_of(session_id).as_slice()) {
+                return false;
+            }
+        }
+        true
+    }
+
     /// Whether publications of the session ids 0 to 199, one after another, are each started, recorded and stopped.
     pub(crate) fn records_200<R: Clock>(&mut self, rt: &R, alloc: Global) -> bool {
         for session_id in 0..200 {

@@ -5,7 +5,7 @@
 //! - `asks` says a line once, `awaits` until it is answered so, `asks-alone` in a connection of its own beside this one;
 //!   `sends` sends bytes of a line;
 //! - `casts` sends a datagram, `casts-elsewhere` by another socket, which gets no answer, `casts-ten` the first ten messages of
-//!   a stream;
+//!   a stream, `casts-setups` the setup frames of 64 publications;
 //! - `receives` waits for one, `receives-among` for one among others, `silence` until none has come for a second;
 //! - `follows` waits for one line more;
 //! - `beats` sends a datagram each 200 milliseconds for 3 seconds;
@@ -79,6 +79,7 @@ fn is_met<R: Clock + Net<Listener = TcpListener, Stream = TcpStream>>(
         "casts-elsewhere" => client.casts_elsewhere(rt, datagram(said)),
         "beats" => beats(rt, client, datagram(said)),
         "casts-ten" => client.casts_ten(),
+        "casts-setups" => client.casts_setups(),
         "records-200" => client.records_200(rt, alloc),
         "receives" => client.receives(datagram(said)),
         "receives-among" => client.receives_among(datagram(said)),

@@ -1,4 +1,4 @@
-//! Connections that are sent the frames of a replay: docs/SERVING.md, "Followers"; docs/PROTOCOL.md, "Followers".
+//! Connections that are sent the frames of a replay: docs/SERVING.md, "Consumers"; docs/PROTOCOL.md, "Following a recording".
 
 use crate::client::{Client, Ports, connected};
 use crate::serving::{bound, options, quits, served};
@@ -253,7 +253,6 @@ fn is_closed<R: Net<Listener = TcpListener, Stream = TcpStream>>(
         && comes(&mut stream, &sign(0xC0, 128))
         && client.asks(alloc, "poll 0 1", "error 9 UnknownReplay")
         && client.asks(alloc, "poll-to 0 1 64", "error 9 UnknownReplay")
-        && client.asks(alloc, "purge 0", "error 4 ActiveReplay")
         && client.asks(alloc, "close 0", "closed")
         && hears_nothing_else(&mut stream, alloc)
         && client.asks(alloc, "close 0", "error 9 UnknownReplay")

@@ -92,3 +92,26 @@ fn another_stream_is_not_recorded(rt: HostRuntime) -> Result<(), Fail> {
     served_with(&rt, rt.alloc(), disk, recorder(&[1_002]), OTHER).ok_or("served")?;
     Ok(())
 }
+
+/// Setup frames of 64 publications begin so many recordings. One more begins 15 seconds after the first of them.
+const MANY: &str = "\
+casts-setups
+awaits positions 63: positions 0 0 -1
+rests
+rests
+rests
+rests
+casts SETUP
+pauses
+asks positions 64: error 1 UnknownRecording
+rests
+rests
+awaits positions 64: positions 0 0 -1
+";
+
+#[test]
+fn at_most_64_recordings_begin_in_a_short_time(rt: HostRuntime) -> Result<(), Fail> {
+    let disk = MemoryDisk::new(rt.alloc());
+    served_with(&rt, rt.alloc(), disk, recorder(&[1_001]), MANY).ok_or("served")?;
+    Ok(())
+}
