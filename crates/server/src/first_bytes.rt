@@ -51,9 +51,14 @@ impl<I: Read + Drop> FirstBytes<I> {
         Ok(false)
     }
 
-    /// Reads further bytes after those that wait. Whether one came.
+    /// Reads one byte after those that wait. Whether it came. Lines are decided on by their first one, so that the rest is read at
+    /// once, and a connection that ends after `quit` has no bytes unread: the system would reset it.
     fn holds_more(&mut self) -> io::Result<bool> {
-        let count = self.reader.read(&mut self.held[self.to..])?;
+        if self.to >= LONGEST {
+            return Ok(false);
+        }
+        let end = self.to + 1;
+        let count = self.reader.read(&mut self.held[self.to..end])?;
         self.to += count;
         Ok(count > 0)
     }
