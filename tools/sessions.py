@@ -9,8 +9,7 @@ bash. Under each stands all that it prints on either stream; a line `...` leaves
 A command that README.md, SERVING.md or CONTROL.md shows elsewhere is run too: one of a folder or a file in a piece of code, or
 one of /usr/local/bin/archive_tool. It is run over a recorded archive, with a value for each <word>, once with all that stands
 in brackets and once without, and has to end with status 0.
-What proves (`rt ci`, `tools/libraries.py`) is not run again. The followers of examples/ are checked against a small server
-(trials/lib/followers.py). Status 1 if anything differs.
+What proves (`rt ci`, `tools/libraries.py`) is not run again. Status 1 if anything differs.
 """
 import os
 import re
@@ -23,9 +22,6 @@ from collections.abc import Iterator
 from pathlib import Path
 
 from repository import ROOT
-
-sys.path.insert(0, str(ROOT / "trials"))
-from lib import followers  # noqa: E402
 
 PAGES = [ROOT / "README.md", ROOT / "CONTRIBUTING.md", ROOT / "SECURITY.md", *sorted((ROOT / "docs").glob("*.md"))]
 BLOCK = re.compile(r"^```console\n(.*?)^```$", re.M | re.S)
@@ -184,9 +180,6 @@ def main() -> int:
     for page in SHOWING:
         count += len(shown_commands(page))
         found += refused(page, program)
-    with tempfile.TemporaryDirectory() as room:
-        for name, command in followers.followers(Path(room)).items():
-            found += followers.differences(name, command)
     print("".join(f"{it}\n" for it in found), end="")
     print(f"{count} commands were run, {len(found)} findings")
     return 1 if found else 0

@@ -39,7 +39,7 @@ from lib.tool import (
 )
 
 sys.path.insert(0, str(ROOT / "examples"))
-from sender import IDLE_SECONDS, STATUS, FlowControlled, Publication, aligned, kind_of  # noqa: E402
+from sender import IDLE_SECONDS, STATUS, FlowControlled, Publication, kind_of  # noqa: E402
 
 WINDOW, SHORTEST_WINDOW = 131_072, 4_096
 MOST_REPEATS = MOST_NAKS = 3  # for each lost frame; for each lost or swapped datagram
@@ -85,8 +85,8 @@ class FaultySender(FlowControlled):
 
     def is_held(self) -> bool:
         """Whether a frame waits that may not be sent."""
-        frame, covers = self.publication.frames.get(self.position, (b"", 0))
-        return covers > 0 and self.position + aligned(len(frame)) > self.limit
+        covers = self.publication.frames.get(self.position, (b"", 0))[1]
+        return covers > 0 and self.position + covers > self.limit
 
     def flush(self) -> None:
         """Sends the frames that wait, once the receiver has room for them."""

@@ -7,9 +7,7 @@ mod capture;
 mod commands;
 mod concluding;
 mod exit;
-mod flushing;
 mod hidden;
-mod log;
 mod looking;
 mod observers;
 mod open_folder;
@@ -21,7 +19,6 @@ mod sound_disk;
 mod status;
 mod usage;
 mod verifying;
-mod waiting;
 mod why;
 
 pub use answering::{answered, no_command};

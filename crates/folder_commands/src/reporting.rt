@@ -1,17 +1,15 @@
 //! What a server reports while it runs: lines on standard error, and the metrics file. docs/SERVING.md, "What the server prints"
 //! and "Metrics".
 
-use crate::log::{Level, Log};
 use crate::observers::is_same;
 use crate::why::{FaultLine, MetricsFault};
 use archive_commands::Viewer;
 use host_disk::{HostDisk, LastFault};
 use metrics_text::{Measures, print_metrics};
-use server::{Happening, Reporter};
+use server::{Happening, LineReporter, Reporter};
 use std::alloc::Global;
 use std::fs;
 use std::io::{self, Eprint, ErrorKind};
-use std::rt::Clock;
 use std::sync::atomic::{AtomicI32, Ordering};
 
 /// Causes of faults of a metrics file that are reported at most.
@@ -22,33 +20,29 @@ const NO_CAUSE: i32 = i32::MIN;
 /// Reports what happens, a line for each, and writes the metrics file, if there is one.
 #[derive(Drop)]
 pub(crate) struct ServeReporter<'a, R> {
-    log: Log<'a, R>,
-    is_quiet: bool,
+    lines: LineReporter<'a, R>,
+    errors: &'a R,
     metrics: Option<MetricsFile<'a>>,
 }
 
-impl<'a, R: Eprint + Clock> ServeReporter<'a, R> {
-    /// Reports by lines; faults and the end alone if it is quiet.
+impl<'a, R: Eprint> ServeReporter<'a, R> {
+    /// Reports on standard error; faults and the end alone if it is quiet.
     pub(crate) fn new(
-        log: Log<'a, R>,
+        errors: &'a R,
         is_quiet: bool,
         metrics: Option<MetricsFile<'a>>,
     ) -> ServeReporter<'a, R> {
         ServeReporter {
-            log,
-            is_quiet,
+            lines: LineReporter::new(errors, is_quiet),
+            errors,
             metrics,
         }
     }
 }
 
-impl<R: Eprint + Clock> Reporter for ServeReporter<'_, R> {
+impl<R: Eprint> Reporter for ServeReporter<'_, R> {
     fn report(&self, happening: &Happening<'_>) {
-        if happening.is_reported_quietly() {
-            self.log.print(Level::Error, *happening);
-        } else if !self.is_quiet {
-            self.log.print(Level::Info, *happening);
-        }
+        self.lines.report(happening);
     }
 
     fn measured(&self, measures: &Measures) {
@@ -57,7 +51,7 @@ impl<R: Eprint + Clock> Reporter for ServeReporter<'_, R> {
         };
         if let Err(error) = metrics.write(measures) {
             if metrics.is_new(error) {
-                self.log.print(Level::Error, MetricsFault(error));
+                let _ = self.errors.eprintln(MetricsFault(error));
             }
         }
     }
@@ -122,20 +116,20 @@ impl<'a> MetricsFile<'a> {
 /// Reports each call of a served folder that fails, once for each file and cause.
 #[derive(Drop)]
 pub(crate) struct ServeFaults<'a, R> {
-    log: Log<'a, R>,
+    errors: &'a R,
     reported: Vec<LastFault>,
 }
 
-impl<'a, R: Eprint + Clock> ServeFaults<'a, R> {
-    pub(crate) fn new(alloc: Global, log: Log<'a, R>) -> ServeFaults<'a, R> {
+impl<'a, R: Eprint> ServeFaults<'a, R> {
+    pub(crate) fn new(alloc: Global, errors: &'a R) -> ServeFaults<'a, R> {
         ServeFaults {
-            log,
+            errors,
             reported: Vec::new(alloc),
         }
     }
 }
 
-impl<R: Eprint + Clock> Viewer<HostDisk> for ServeFaults<'_, R> {
+impl<R: Eprint> Viewer<HostDisk> for ServeFaults<'_, R> {
     fn failed(&mut self, disk: &HostDisk) {
         let Some(fault) = disk.last_fault() else {
             return;
@@ -149,6 +143,6 @@ impl<R: Eprint + Clock> Viewer<HostDisk> for ServeFaults<'_, R> {
         }
         // Where there is no memory for it, it may be reported again.
         let _ = self.reported.push(fault);
-        self.log.print(Level::Error, FaultLine(fault));
+        let _ = self.errors.eprintln(FaultLine(fault));
     }
 }

@@ -5,7 +5,6 @@ use Rattle.std.specs.List.{flat_map}
 use Rattle.metrics_text.specs.declared.measures.ArchiveMeasures.{ArchiveMeasures}
 use Rattle.metrics_text.specs.declared.measures.RecorderMeasures.{RecorderMeasures}
 use Rattle.metrics_text.specs.declared.measures.DatagramMeasures.{DatagramMeasures}
-use Rattle.metrics_text.specs.declared.measures.ResumeMeasures.{ResumeMeasures}
 use Rattle.metrics_text.specs.declared.measures.ClientMeasures.{ClientMeasures}
 use Rattle.metrics_text.specs.declared.measures.RecordingMeasures.{RecordingMeasures}
 use Rattle.metrics_text.specs.declared.measures.ImageMeasures.{ImageMeasures}
@@ -86,8 +85,6 @@ abbrev pub history_families : ArchiveMeasures → List Family
 history_families a =
     gauge (codes "aeron_recorder_history_entries") (codes "Entries of the history that are used.") (decimal a.entries)
     ∷ gauge (codes "aeron_recorder_history_limit_entries") (codes "Entries that the history may have.") (decimal a.limit)
-    ∷ counter (codes "aeron_recorder_checkpoints_total") (codes "Checkpoints that were made.") a.checkpoints
-    ∷ counter (codes "aeron_recorder_checkpoints_refused_total") (codes "Checkpoints that were refused.") a.refused_checkpoints
     ∷ []
 
 abbrev pub recorder_families : RecorderMeasures → List Family
@@ -111,19 +108,6 @@ sent_families d =
     counter (codes "aeron_recorder_naks_sent_total") (codes "NAK frames that were sent.") d.naks
     ∷ counter (codes "aeron_recorder_status_messages_sent_total") (codes "Status messages that were sent.") d.status_messages
     ∷ counter (codes "aeron_recorder_images_joined_total") (codes "Images that joined.") d.images
-    ∷ []
-
-abbrev pub hole_families : ResumeMeasures → List Family
-hole_families r =
-    counter (codes "aeron_recorder_holes_total") (codes "Holes between recordings of one publication.") r.holes
-    ∷ counter (codes "aeron_recorder_hole_bytes_total") (codes "Bytes of such holes.") r.hole_bytes
-    ∷ []
-
-abbrev pub resume_families : ResumeMeasures → List Family
-resume_families r =
-    counter (codes "aeron_recorder_resumed_total") (codes "Images that began before their setup frames, where a recording stands.") r.resumed
-    ∷ counter (codes "aeron_recorder_resumed_bytes_total") (codes "Bytes that were missing before setup frames, and came.") r.resumed_bytes
-    ∷ gauge (codes "aeron_recorder_resuming") (codes "Images that wait for such bytes.") (decimal r.resuming)
     ∷ []
 
 abbrev pub client_families : ClientMeasures → List Family
@@ -177,7 +161,5 @@ metrics_text m =
     ++ (flat_map family_text (recorder_families m.recorder)
     ++ (flat_map family_text (received_families m.datagrams)
     ++ (flat_map family_text (sent_families m.datagrams)
-    ++ (flat_map family_text (hole_families m.resumes)
-    ++ (flat_map family_text (resume_families m.resumes)
     ++ (flat_map family_text (client_families m.clients)
-    ++ position_text m.recordings.items m.images.items)))))))
+    ++ position_text m.recordings.items m.images.items)))))

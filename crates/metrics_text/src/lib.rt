@@ -7,6 +7,6 @@ mod print;
 
 pub use measures::{
     ArchiveMeasures, ClientMeasures, DatagramMeasures, ImageMeasures, Measures, RecorderMeasures,
-    RecordingMeasures, ResumeMeasures,
+    RecordingMeasures,
 };
 pub use print::print_metrics;

@@ -2,12 +2,12 @@
 
 ghost use Rattle.std.specs.Prelude.{◌≡◌, ◌++◌, OnOk, IfOk, decimal, string_bytes};
 ghost use Rattle.std.specs.List.{flat_map};
-ghost use Rattle.metrics_text.specs.MetricsText.{client_families, counter, family_text, gauge, head, history_families, hole_families, image_family, image_labels, image_metric_line, image_number, metrics_text, one_or_zero, position_text, received_families, recorded_family, recorded_line, recorder_families, recording_labels, resume_families, seconds, sent_families, state_families, summary};
+ghost use Rattle.metrics_text.specs.MetricsText.{client_families, counter, family_text, gauge, head, history_families, image_family, image_labels, image_metric_line, image_number, metrics_text, one_or_zero, position_text, received_families, recorded_family, recorded_line, recorder_families, recording_labels, seconds, sent_families, state_families, summary};
 
 use crate::image_family::ImageFamily;
 use crate::measures::{
     ArchiveMeasures, ClientMeasures, DatagramMeasures, ImageMeasures, Measures, RecorderMeasures,
-    RecordingMeasures, ResumeMeasures,
+    RecordingMeasures,
 };
 use std::alloc::{AllocError, Global};
 
@@ -141,18 +141,6 @@ fn put_history(out: &mut String, archive: &ArchiveMeasures) -> Result<(), AllocE
         "aeron_recorder_history_limit_entries",
         "Entries that the history may have.",
         archive.limit,
-    )?;
-    put_counter(
-        out,
-        "aeron_recorder_checkpoints_total",
-        "Checkpoints that were made.",
-        archive.checkpoints,
-    )?;
-    put_counter(
-        out,
-        "aeron_recorder_checkpoints_refused_total",
-        "Checkpoints that were refused.",
-        archive.refused_checkpoints,
     )
 }
 
@@ -238,48 +226,6 @@ fn put_sent(out: &mut String, datagrams: &DatagramMeasures) -> Result<(), AllocE
         "aeron_recorder_images_joined_total",
         "Images that joined.",
         datagrams.images,
-    )
-}
-
-fn put_holes(out: &mut String, resumes: &ResumeMeasures) -> Result<(), AllocError>
-    ensures { OnOk result (string_bytes out.new
-        ≡ string_bytes out.old ++ flat_map family_text (hole_families resumes.now)) }
-{
-    put_counter(
-        out,
-        "aeron_recorder_holes_total",
-        "Holes between recordings of one publication.",
-        resumes.holes,
-    )?;
-    put_counter(
-        out,
-        "aeron_recorder_hole_bytes_total",
-        "Bytes of such holes.",
-        resumes.hole_bytes,
-    )
-}
-
-fn put_resumes(out: &mut String, resumes: &ResumeMeasures) -> Result<(), AllocError>
-    ensures { OnOk result (string_bytes out.new
-        ≡ string_bytes out.old ++ flat_map family_text (resume_families resumes.now)) }
-{
-    put_counter(
-        out,
-        "aeron_recorder_resumed_total",
-        "Images that began before their setup frames, where a recording stands.",
-        resumes.resumed,
-    )?;
-    put_counter(
-        out,
-        "aeron_recorder_resumed_bytes_total",
-        "Bytes that were missing before setup frames, and came.",
-        resumes.resumed_bytes,
-    )?;
-    put_gauge(
-        out,
-        "aeron_recorder_resuming",
-        "Images that wait for such bytes.",
-        resumes.resuming,
     )
 }
 
@@ -448,8 +394,6 @@ pub fn print_metrics(alloc: Global, measures: &Measures) -> Result<String, Alloc
     put_recorder(&mut out, &measures.recorder)?;
     put_received(&mut out, &measures.datagrams)?;
     put_sent(&mut out, &measures.datagrams)?;
-    put_holes(&mut out, &measures.resumes)?;
-    put_resumes(&mut out, &measures.resumes)?;
     put_clients(&mut out, &measures.clients)?;
     put_positions(
         &mut out,

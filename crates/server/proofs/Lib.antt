@@ -1,4 +1,2 @@
 mod ClientLemmas
-mod ConsumerLemmas
 mod ServingLemmas
-mod FollowingLemmas

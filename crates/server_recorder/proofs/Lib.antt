@@ -1,4 +1,3 @@
 mod SeatLemmas
 mod SettlingLemmas
 pub mod StreamLemmas
-pub mod StandLemmas

@@ -2,7 +2,7 @@
 
 use crate::refusal_text::RefusalText;
 use std::fmt;
-use tool_core::{Beginning, CheckpointOutcome, HistoryUse};
+use tool_core::{Beginning, HistoryUse};
 
 /// What happened to the archive.
 #[derive(Clone, Copy, Drop)]
@@ -13,8 +13,6 @@ pub enum ArchiveNews {
     DeviceFault,
     /// How much of its history it has used.
     HistoryUsed(HistoryUse),
-    /// What became of a checkpoint.
-    Checkpoint(CheckpointOutcome),
 }
 
 impl ArchiveNews {
@@ -34,7 +32,6 @@ impl fmt::Display for ArchiveNews {
             ArchiveNews::Began(beginning) => write_beginning(f, beginning),
             ArchiveNews::DeviceFault => f.write_str("a call was answered by a device fault"),
             ArchiveNews::HistoryUsed(history) => write!(f, "{history}"),
-            ArchiveNews::Checkpoint(outcome) => write!(f, "{outcome}"),
         }
     }
 }

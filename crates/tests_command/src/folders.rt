@@ -50,7 +50,7 @@ pub(crate) fn ended<
 }
 
 /// The status with which it ends.
-pub(crate) fn status_of<
+fn status_of<
     R: Threads + Wait + Clock + Eprint + Net<Listener = TcpListener, Stream = TcpStream> + Sync,
     I: Read + Drop,
     W: Write,
@@ -59,7 +59,7 @@ pub(crate) fn status_of<
 }
 
 /// What a command writes has to be this, and its status that.
-pub(crate) fn check<
+fn check<
     R: Threads + Wait + Clock + Eprint + Net<Listener = TcpListener, Stream = TcpStream> + Sync,
 >(net: &R, rt: HostRuntime, command: ToolCommand<'_>, told: &str, status: u8) -> Result<(), Fail> {
     let mut out = Vec::new(rt.alloc());
@@ -84,7 +84,7 @@ pub(crate) fn record(rt: HostRuntime, folder: &str) -> Result<(), Fail> {
 }
 
 /// The same in its second recording.
-pub(crate) fn record_more(rt: HostRuntime, folder: &str) -> Result<(), Fail> {
+fn record_more(rt: HostRuntime, folder: &str) -> Result<(), Fail> {
     script(rt, folder, b"started 1 0\nsettled 64\n")
 }
 
@@ -123,15 +123,12 @@ fn command<'a>(word: Word, folder: &'a str, file: &'a str) -> ToolCommand<'a> {
         Word::List | Word::ListReadOnly => ToolCommand::List {
             folder,
             read_only: matches!(word, Word::ListReadOnly),
-            wait: None,
         },
         Word::Verify | Word::VerifyReadOnly => ToolCommand::Verify {
             folder,
-            recording: None,
             read_only: matches!(word, Word::VerifyReadOnly),
-            wait: None,
         },
-        Word::Compact => ToolCommand::Compact { folder, wait: None },
+        Word::Compact => ToolCommand::Compact { folder },
         Word::Frames => ToolCommand::Frames { file },
     }
 }

@@ -9,8 +9,6 @@ mod client;
 #[cfg(test)]
 mod folders;
 #[cfg(test)]
-mod operating;
-#[cfg(test)]
 mod serving;
 #[cfg(test)]
 mod words;

@@ -22,19 +22,11 @@ pub(crate) fn usual<'a>(alloc: Global) -> ServeWords<'a> {
         is_aeron: false,
         window: None,
         clients: None,
-        consumers: None,
-        consumers_on: None,
         streams: Vec::new(alloc),
         segment_length: None,
         is_quiet: false,
         is_strict: false,
         metrics: None,
-        checkpoints: false,
-        no_checkpoints: false,
-        name: None,
-        logs_times: false,
-        no_create: false,
-        wait: None,
     }
 }
 
@@ -127,60 +119,6 @@ fn serve_has_its_reports(rt: HostRuntime) -> Result<(), Fail> {
     Ok(())
 }
 
-/// Whether checkpoints are asked for, and whether none are. `serve` refuses what does not go together, and not the command line.
-#[test]
-fn serve_has_its_checkpoints(rt: HostRuntime) -> Result<(), Fail> {
-    for (options, is_aeron, checkpoints, no_checkpoints) in [
-        ("--checkpoints", false, true, false),
-        ("--aeron --no-checkpoints", true, false, true),
-        ("--no-checkpoints --checkpoints", false, true, true),
-    ] {
-        let line = format!(in rt.alloc();
-            "archive_tool serve a --control 1 --receive 2 {options}"
-        )?;
-        let mut words = usual(rt.alloc());
-        words.is_aeron = is_aeron;
-        words.checkpoints = checkpoints;
-        words.no_checkpoints = no_checkpoints;
-        assert!(rt;
-            asks_for(rt.alloc(), line.as_str(), ToolCommand::Serve(words))?,
-            "{line}"
-        );
-    }
-    Ok(())
-}
-
-/// Its name, whether lines have their times, whether an archive has to be there, and for how long it is waited for.
-#[test]
-fn serve_has_its_operation(rt: HostRuntime) -> Result<(), Fail> {
-    for (options, name, logs_times, no_create, wait) in [
-        ("--name a-1", Some("a-1"), false, false, None),
-        ("--log-times --name=", Some(""), true, false, None),
-        ("--no-create --wait 30", None, false, true, Some(30)),
-        (
-            "--wait=1 --no-create --log-times",
-            None,
-            true,
-            true,
-            Some(1),
-        ),
-    ] {
-        let line = format!(in rt.alloc();
-            "archive_tool serve a --control 1 --receive 2 {options}"
-        )?;
-        let mut words = usual(rt.alloc());
-        words.name = name;
-        words.logs_times = logs_times;
-        words.no_create = no_create;
-        words.wait = wait;
-        assert!(rt;
-            asks_for(rt.alloc(), line.as_str(), ToolCommand::Serve(words))?,
-            "{line}"
-        );
-    }
-    Ok(())
-}
-
 /// Streams in the order of the words, and the length of their segments. `serve` refuses those that do not go together, and not
 /// the command line.
 #[test]
@@ -228,32 +166,6 @@ fn serve_has_its_streams(rt: HostRuntime) -> Result<(), Fail> {
     Ok(())
 }
 
-/// A port of consumers, and its address. `serve` refuses an address without a port, and not the command line.
-#[test]
-fn serve_has_its_consumers(rt: HostRuntime) -> Result<(), Fail> {
-    for (options, consumers, consumers_on) in [
-        ("--consumers 1", Some(1), None),
-        (
-            "--consumers=65535 --consumers-on 10.0.0.1",
-            Some(65_535),
-            Some("10.0.0.1"),
-        ),
-        ("--consumers-on=x", None, Some("x")),
-    ] {
-        let line = format!(in rt.alloc();
-            "archive_tool serve a --control 1 --receive 2 {options}"
-        )?;
-        let mut words = usual(rt.alloc());
-        words.consumers = consumers;
-        words.consumers_on = consumers_on;
-        assert!(rt;
-            asks_for(rt.alloc(), line.as_str(), ToolCommand::Serve(words))?,
-            "{line}"
-        );
-    }
-    Ok(())
-}
-
 /// A value that is out of an option's range, or not a number.
 #[test]
 fn options_of_a_server_out_of_range(rt: HostRuntime) -> Result<(), Fail> {
@@ -283,8 +195,6 @@ fn options_of_a_server_out_of_range(rt: HostRuntime) -> Result<(), Fail> {
         ("--aeron --window x", "'x' for '--window <bytes>'"),
         ("--clients 0", "'0' for '--clients <count>'"),
         ("--clients 65", "'65' for '--clients <count>'"),
-        ("--consumers 0", "'0' for '--consumers <port>'"),
-        ("--consumers 65536", "'65536' for '--consumers <port>'"),
         ("--record x", "'x' for '--record <stream id>'"),
         (
             "--record 1 --record 2147483648",
@@ -320,7 +230,7 @@ fn a_missing_port(rt: HostRuntime) -> Result<(), Fail> {
 }
 
 /// Words of `serve` over a folder that is not there, on ports that the system chooses.
-pub(crate) fn unserved<'a>(
+fn unserved<'a>(
     alloc: Global,
     folder: &'a str,
     receive_on: &'a str,
@@ -337,19 +247,11 @@ pub(crate) fn unserved<'a>(
         is_aeron,
         window,
         clients: None,
-        consumers: None,
-        consumers_on: None,
         streams: Vec::new(alloc),
         segment_length: None,
         is_quiet: true,
         is_strict: false,
         metrics: None,
-        checkpoints: false,
-        no_checkpoints: false,
-        name: None,
-        logs_times: false,
-        no_create: false,
-        wait: None,
     }
 }
 
@@ -393,81 +295,6 @@ fn wrong_words_of_a_server(rt: HostRuntime) -> Result<(), Fail> {
     Ok(())
 }
 
-/// A name of a recorder has 1 to 64 letters, digits, `_`, `.` and `-`.
-#[test]
-fn names_of_a_server(rt: HostRuntime) -> Result<(), Fail> {
-    let (absent, wrong) = (
-        "the folder is not there",
-        "--name wants 1 to 64 of the characters A-Z, a-z, 0-9, _, . and -",
-    );
-    let longest = "AZaz09_.-0123456789012345678901234567890123456789012345678901234";
-    let folder = format!(in rt.alloc(); "{}/archive_tool-unnamed", env::temp_dir(&rt)?.display())?;
-    let longer = format!(in rt.alloc(); "{longest}5")?;
-    let mut out = Vec::new(rt.alloc());
-    for (name, reason, status) in [
-        (longest, absent, 3),
-        ("a", absent, 3),
-        (longer.as_str(), wrong, 2),
-        ("", wrong, 2),
-        ("a b", wrong, 2),
-        ("a\"", wrong, 2),
-        ("/", wrong, 2),
-        (":", wrong, 2),
-        ("@", wrong, 2),
-        ("[", wrong, 2),
-        ("`", wrong, 2),
-        ("{", wrong, 2),
-        ("\u{e9}", wrong, 2),
-    ] {
-        let mut words = unserved(rt.alloc(), folder.as_str(), "127.0.0.1", false, None);
-        words.name = Some(name);
-        let ended = ended(&rt, rt, ToolCommand::Serve(words), NO_LINES, &mut out);
-        let streams = Streams::new(rt.alloc(), reason);
-        assert!(rt; concluded(&streams, ended) == status, "{name} {status}");
-        assert!(rt; streams.awaited_came.get(), "{name} {status}");
-    }
-    Ok(())
-}
-
-/// An address of consumers without their port, and one that no machine has, are usage errors too.
-#[test]
-fn wrong_consumers_of_a_server(rt: HostRuntime) -> Result<(), Fail> {
-    let absent = "the folder is not there";
-    let multicast = "--consumers-on wants an address of this machine, not a multicast address";
-    let folder = format!(in rt.alloc();
-        "{}/archive_tool-unconsumed",
-        env::temp_dir(&rt)?.display()
-    )?;
-    let mut out = Vec::new(rt.alloc());
-    for (consumers, consumers_on, reason, status) in [
-        (
-            None,
-            Some("127.0.0.1"),
-            "--consumers-on needs --consumers",
-            2,
-        ),
-        (None, Some("x"), "--consumers-on needs --consumers", 2),
-        (
-            Some(0),
-            Some("10.0.0"),
-            "--consumers-on wants an IPv4 address",
-            2,
-        ),
-        (Some(0), Some("224.0.0.1"), multicast, 2),
-        (Some(0), Some("127.0.0.1"), absent, 3),
-        (Some(0), None, absent, 3),
-    ] {
-        let mut words = unserved(rt.alloc(), folder.as_str(), "127.0.0.1", false, None);
-        words.consumers = consumers;
-        words.consumers_on = consumers_on;
-        let ended = ended(&rt, rt, ToolCommand::Serve(words), NO_LINES, &mut out);
-        let streams = Streams::new(rt.alloc(), reason);
-        assert!(rt; concluded(&streams, ended) == status, "{reason} {status}");
-        assert!(rt; streams.awaited_came.get(), "{reason} {status}");
-    }
-    Ok(())
-}
-
 /// So many streams.
 fn streams_of(alloc: Global, count: i32) -> Result<Vec<i32>, AllocError> {
     let mut streams = Vec::new(alloc);
@@ -502,38 +329,6 @@ fn wrong_streams_of_a_server(rt: HostRuntime) -> Result<(), Fail> {
         let mut words = unserved(rt.alloc(), folder.as_str(), "127.0.0.1", is_aeron, None);
         words.streams = streams_of(rt.alloc(), count)?;
         words.segment_length = segment_length;
-        let ended = ended(&rt, rt, ToolCommand::Serve(words), NO_LINES, &mut out);
-        let streams = Streams::new(rt.alloc(), reason);
-        assert!(rt; concluded(&streams, ended) == status, "{reason} {status}");
-        assert!(rt; streams.awaited_came.get(), "{reason} {status}");
-    }
-    Ok(())
-}
-
-/// `--no-checkpoints` without `--aeron`, and with `--checkpoints`, is a usage error too.
-#[test]
-fn wrong_checkpoints_of_a_server(rt: HostRuntime) -> Result<(), Fail> {
-    let (absent, needs, both) = (
-        "the folder is not there",
-        "--no-checkpoints needs --aeron",
-        "--checkpoints and --no-checkpoints contradict each other",
-    );
-    let folder = format!(in rt.alloc();
-        "{}/archive_tool-unchecked",
-        env::temp_dir(&rt)?.display()
-    )?;
-    let mut out = Vec::new(rt.alloc());
-    for (is_aeron, checkpoints, no_checkpoints, reason, status) in [
-        (false, false, true, needs, 2),
-        (false, true, true, both, 2),
-        (true, true, true, both, 2),
-        (true, false, true, absent, 3),
-        (true, true, false, absent, 3),
-        (false, true, false, absent, 3),
-    ] {
-        let mut words = unserved(rt.alloc(), folder.as_str(), "127.0.0.1", is_aeron, None);
-        words.checkpoints = checkpoints;
-        words.no_checkpoints = no_checkpoints;
         let ended = ended(&rt, rt, ToolCommand::Serve(words), NO_LINES, &mut out);
         let streams = Streams::new(rt.alloc(), reason);
         assert!(rt; concluded(&streams, ended) == status, "{reason} {status}");

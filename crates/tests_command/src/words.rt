@@ -185,7 +185,7 @@ fn help(rt: HostRuntime) -> Result<(), Fail> {
         (
             "archive_tool --version",
             ErrorKind::DisplayVersion,
-            "archive_tool 0.2.0 (catalogue 2, rattle-kit-",
+            "archive_tool 0.1.0 (catalogue 2, rattle-kit-",
         ),
     ] {
         check_refused(&rt, rt.alloc(), line, kind, text, 0)?;
@@ -286,60 +286,24 @@ fn a_history_that_is_no_number(rt: HostRuntime) -> Result<(), Fail> {
 #[test]
 fn each_command_has_its_words(rt: HostRuntime) -> Result<(), Fail> {
     for (line, command) in [
-        (
-            "archive_tool run",
-            ToolCommand::Run {
-                folder: None,
-                checkpoints: false,
-                wait: None,
-            },
-        ),
-        (
-            "archive_tool run a",
-            ToolCommand::Run {
-                folder: Some("a"),
-                checkpoints: false,
-                wait: None,
-            },
-        ),
-        (
-            "archive_tool run --checkpoints",
-            ToolCommand::Run {
-                folder: None,
-                checkpoints: true,
-                wait: None,
-            },
-        ),
-        (
-            "archive_tool run a --checkpoints",
-            ToolCommand::Run {
-                folder: Some("a"),
-                checkpoints: true,
-                wait: None,
-            },
-        ),
+        ("archive_tool run", ToolCommand::Run { folder: None }),
+        ("archive_tool run a", ToolCommand::Run { folder: Some("a") }),
         (
             "archive_tool compact a",
-            ToolCommand::Compact {
-                folder: "a",
-                wait: None,
-            },
+            ToolCommand::Compact { folder: "a" },
         ),
         (
             "archive_tool list a",
             ToolCommand::List {
                 folder: "a",
                 read_only: false,
-                wait: None,
             },
         ),
         (
             "archive_tool verify a/b",
             ToolCommand::Verify {
                 folder: "a/b",
-                recording: None,
                 read_only: false,
-                wait: None,
             },
         ),
         (
@@ -347,23 +311,19 @@ fn each_command_has_its_words(rt: HostRuntime) -> Result<(), Fail> {
             ToolCommand::List {
                 folder: "a",
                 read_only: true,
-                wait: None,
             },
         ),
         (
             "archive_tool verify --read-only a",
             ToolCommand::Verify {
                 folder: "a",
-                recording: None,
                 read_only: true,
-                wait: None,
             },
         ),
         (
             "archive_tool describe a",
             ToolCommand::Describe {
                 folder: "a",
-                recording: None,
                 json: false,
             },
         ),
@@ -371,7 +331,6 @@ fn each_command_has_its_words(rt: HostRuntime) -> Result<(), Fail> {
             "archive_tool describe a --json",
             ToolCommand::Describe {
                 folder: "a",
-                recording: None,
                 json: true,
             },
         ),
@@ -404,7 +363,6 @@ fn each_command_has_its_words(rt: HostRuntime) -> Result<(), Fail> {
             ToolCommand::List {
                 folder: "-a",
                 read_only: false,
-                wait: None,
             },
         ),
         (
@@ -412,130 +370,10 @@ fn each_command_has_its_words(rt: HostRuntime) -> Result<(), Fail> {
             ToolCommand::List {
                 folder: "list",
                 read_only: false,
-                wait: None,
             },
         ),
     ] {
         assert!(rt; asks_for(rt.alloc(), line, command)?, "{line}");
-    }
-    Ok(())
-}
-
-/// One recording alone, by its id.
-#[test]
-fn commands_of_one_recording(rt: HostRuntime) -> Result<(), Fail> {
-    for (line, command) in [
-        (
-            "archive_tool verify a 0",
-            ToolCommand::Verify {
-                folder: "a",
-                recording: Some(0),
-                read_only: false,
-                wait: None,
-            },
-        ),
-        (
-            "archive_tool verify a 9223372036854775807 --read-only",
-            ToolCommand::Verify {
-                folder: "a",
-                recording: Some(i64::MAX),
-                read_only: true,
-                wait: None,
-            },
-        ),
-        (
-            "archive_tool describe --json a 7",
-            ToolCommand::Describe {
-                folder: "a",
-                recording: Some(7),
-                json: true,
-            },
-        ),
-    ] {
-        assert!(rt; asks_for(rt.alloc(), line, command)?, "{line}");
-    }
-    Ok(())
-}
-
-/// Seconds for which a folder is waited for.
-#[test]
-fn commands_that_wait(rt: HostRuntime) -> Result<(), Fail> {
-    for (line, command) in [
-        (
-            "archive_tool compact --wait 30 a",
-            ToolCommand::Compact {
-                folder: "a",
-                wait: Some(30),
-            },
-        ),
-        (
-            "archive_tool list a --wait 1",
-            ToolCommand::List {
-                folder: "a",
-                read_only: false,
-                wait: Some(1),
-            },
-        ),
-        (
-            "archive_tool verify a --wait=86400",
-            ToolCommand::Verify {
-                folder: "a",
-                recording: None,
-                read_only: false,
-                wait: Some(86_400),
-            },
-        ),
-        (
-            "archive_tool run a --wait 2",
-            ToolCommand::Run {
-                folder: Some("a"),
-                checkpoints: false,
-                wait: Some(2),
-            },
-        ),
-    ] {
-        assert!(rt; asks_for(rt.alloc(), line, command)?, "{line}");
-    }
-    Ok(())
-}
-
-/// An id or a wait that is out of its range, or of a command that has none.
-#[test]
-fn a_wrong_recording_or_wait(rt: HostRuntime) -> Result<(), Fail> {
-    let value = ErrorKind::ValueValidation;
-    for (line, kind, text) in [
-        (
-            "archive_tool verify a x",
-            value,
-            "error: invalid value 'x' for '[recording]': ",
-        ),
-        (
-            "archive_tool describe a 9223372036854775808",
-            value,
-            "error: invalid value '9223372036854775808' for '[recording]': ",
-        ),
-        (
-            "archive_tool list a --wait 0",
-            value,
-            "error: invalid value '0' for '--wait <seconds>': ",
-        ),
-        (
-            "archive_tool compact a --wait 86401",
-            value,
-            "error: invalid value '86401' for '--wait <seconds>': ",
-        ),
-        (
-            "archive_tool list a 0",
-            ErrorKind::UnknownArgument,
-            "error: unexpected argument '0' found\n",
-        ),
-        (
-            "archive_tool describe a --wait 1",
-            ErrorKind::UnknownArgument,
-            "error: unexpected argument '--wait' found\n",
-        ),
-    ] {
-        check_refused(&rt, rt.alloc(), line, kind, text, 2)?;
     }
     Ok(())
 }

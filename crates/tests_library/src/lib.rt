@@ -17,8 +17,6 @@ mod checkpoints;
 #[cfg(test)]
 mod compactions;
 #[cfg(test)]
-mod copies;
-#[cfg(test)]
 mod disks;
 #[cfg(test)]
 mod folders;

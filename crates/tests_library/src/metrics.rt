@@ -2,7 +2,7 @@
 
 use metrics_text::{
     ArchiveMeasures, ClientMeasures, DatagramMeasures, ImageMeasures, Measures, RecorderMeasures,
-    RecordingMeasures, ResumeMeasures, print_metrics,
+    RecordingMeasures, print_metrics,
 };
 use std::alloc::{AllocError, Global};
 use std::test::*;
@@ -17,15 +17,12 @@ aeron_recorder_archive_broken 0
 ";
 
 /// Lines that it has.
-const LINES: [&str; 12] = [
+const LINES: [&str; 9] = [
     "aeron_recorder_history_limit_entries 1048576\n",
-    "# TYPE aeron_recorder_checkpoints_total counter\naeron_recorder_checkpoints_total 7\n# HELP aeron_recorder_checkpoints_refused_total Checkpoints that were refused.\n# TYPE aeron_recorder_checkpoints_refused_total counter\naeron_recorder_checkpoints_refused_total 1\n",
     "# TYPE aeron_recorder_recorded_bytes_total counter\naeron_recorder_recorded_bytes_total 18446744073709551615\n",
     "# TYPE aeron_recorder_settle_seconds summary\naeron_recorder_settle_seconds_sum 61.000203\naeron_recorder_settle_seconds_count 9\n",
     "aeron_recorder_settle_longest_seconds 0.000001\n",
     "aeron_recorder_datagrams_repeated_total 4\n",
-    "# TYPE aeron_recorder_hole_bytes_total counter\naeron_recorder_hole_bytes_total 9\n",
-    "aeron_recorder_resuming 12\n",
     "aeron_recorder_recorded_position_bytes{recording=\"3\",stream=\"1001\",session=\"-7\"} 65472\n",
     "aeron_recorder_rebuilt_position_bytes{image=\"0\",stream=\"1001\",session=\"-7\"} 65536\naeron_recorder_rebuilt_position_bytes{image=\"12\",stream=\"-5\",session=\"8\"} 0\n",
     "aeron_recorder_consumed_position_bytes{image=\"0\",stream=\"1001\",session=\"-7\"} 65504\n",
@@ -40,8 +37,6 @@ fn measures(alloc: Global) -> Result<Measures, AllocError> {
             is_full: false,
             entries: 12,
             limit: 1_048_576,
-            checkpoints: 7,
-            refused_checkpoints: 1,
         },
         recorder: RecorderMeasures {
             bytes: u64::MAX,
@@ -58,13 +53,6 @@ fn measures(alloc: Global) -> Result<Measures, AllocError> {
             naks: 5,
             status_messages: 6,
             images: 7,
-        },
-        resumes: ResumeMeasures {
-            holes: 8,
-            hole_bytes: 9,
-            resumed: 10,
-            resumed_bytes: 11,
-            resuming: 12,
         },
         clients: ClientMeasures {
             connections: 1,

@@ -5,10 +5,9 @@
 //! - `asks` says a line once, `awaits` until it is answered so, `asks-alone` in a connection of its own beside this one;
 //!   `sends` sends bytes of a line;
 //! - `casts` sends a datagram, `casts-elsewhere` by another socket, which gets no answer, `casts-ten` the first ten messages of
-//!   a stream, `casts-setups` the setup frames of 64 publications;
-//! - `receives` waits for one, `receives-either` for one of two, `receives-among` for one among others, `silence` until none has come for a second;
+//!   a stream;
+//! - `receives` waits for one, `receives-among` for one among others, `silence` until none has come for a second;
 //! - `follows` waits for one line more;
-//! - `beats` sends a datagram each 200 milliseconds for 3 seconds;
 //! - `pauses` waits for 300 milliseconds, `rests` for 3 seconds, `loses` until an image was lost, `ends` until the server has
 //!   ended the connection.
 
@@ -77,12 +76,9 @@ fn is_met<R: Clock + Net<Listener = TcpListener, Stream = TcpStream>>(
         "sends" => client.send(said.as_bytes()),
         "casts" => client.casts(datagram(said)),
         "casts-elsewhere" => client.casts_elsewhere(rt, datagram(said)),
-        "beats" => beats(rt, client, datagram(said)),
         "casts-ten" => client.casts_ten(),
-        "casts-setups" => client.casts_setups(),
         "records-200" => client.records_200(rt, alloc),
         "receives" => client.receives(datagram(said)),
-        "receives-either" => receives_either(client, said),
         "receives-among" => client.receives_among(datagram(said)),
         "silence" => client.falls_silent(),
         "follows" => client.hears(alloc, rest),
@@ -104,23 +100,6 @@ fn parted<'a>(text: &'a str, mark: &str) -> (&'a str, &'a str) {
 
 fn sleeps<R: Clock>(rt: &R, milliseconds: u64) -> bool {
     thread::sleep(rt, Duration::from_millis(milliseconds));
-    true
-}
-
-/// Whether the next datagram that comes is one of two, by their names.
-fn receives_either(client: &Client, names: &str) -> bool {
-    let (one, other) = parted(names, " ");
-    client.receives_either(datagram(one), datagram(other))
-}
-
-/// Sends a datagram each 200 milliseconds for 3 seconds.
-fn beats<R: Clock>(rt: &R, client: &Client, datagram: &[u8]) -> bool {
-    for _ in 0..15 {
-        if !client.casts(datagram) {
-            return false;
-        }
-        sleeps(rt, 200);
-    }
     true
 }
 

@@ -37,14 +37,14 @@ fn is_served<R: Threads + Wait + Clock + Net<Listener = TcpListener, Stream = Tc
     clients: u32,
     crowd: Crowd,
 ) -> bool {
-    let Some((ends, ports)) = bound(rt) else {
+    let Some((listener, socket, ports)) = bound(rt) else {
         return false;
     };
     let options = for_clients(1, Some(clients));
     let disk = MemoryDisk::new(alloc);
     let (has_ended, is_right) = thread::join(
         rt,
-        move || { serve_with(rt, alloc, ends, disk, &options, Unreported).is_ok() },
+        move || { serve_with(rt, alloc, listener, socket, disk, &options, Unreported).is_ok() },
         move || does(rt, alloc, ports, crowd),
     );
     has_ended && is_right

@@ -38,8 +38,6 @@ const ARCHIVE: ArchiveMeasures = ArchiveMeasures {
     is_full: false,
     entries: 2,
     limit: 1_048_576,
-    checkpoints: 0,
-    refused_checkpoints: 0,
 };
 
 const DATAGRAMS: DatagramMeasures = DatagramMeasures {
@@ -135,14 +133,14 @@ fn measured<R: Threads + Wait + Clock + Net<Listener = TcpListener, Stream = Tcp
     is_measured: bool,
     lines: &'static str,
 ) -> Option<Outcome> {
-    let (ends, ports) = bound(rt)?;
+    let (listener, socket, ports) = bound(rt)?;
     let (told, seen) = (Told::new(), unseen());
     let (told, seen) = (&told, &seen);
     let mut options = options(60, SETTLE_EVERY);
     options.is_measured = is_measured;
     let (has_ended, is_held) = thread::join(
         rt,
-        move || { serve_with(rt, alloc, ends, disk, &options, Looking(seen)).is_ok() },
+        move || { serve_with(rt, alloc, listener, socket, disk, &options, Looking(seen)).is_ok() },
         move || holds(rt, alloc, ports, told, lines),
     );
     let outcome = Outcome {

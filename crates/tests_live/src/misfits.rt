@@ -32,14 +32,16 @@ fn misfits<R: Threads + Wait + Clock + Net<Listener = TcpListener, Stream = TcpS
     alloc: Global,
     conversation: &str,
 ) -> Option<u32> {
-    let (ends, ports) = bound(rt)?;
+    let (listener, socket, ports) = bound(rt)?;
     let told = Told::new();
     let told = &told;
     let options = options(60, SETTLE_EVERY);
     let disk = MemoryDisk::new(alloc);
     let (has_ended, is_right) = thread::join(
         rt,
-        move || { serve_with(rt, alloc, ends, disk, &options, told.reporter()).is_ok() },
+        move || {
+            serve_with(rt, alloc, listener, socket, disk, &options, told.reporter()).is_ok()
+        },
         move || holds(rt, alloc, ports, told, conversation),
     );
     if has_ended && is_right {

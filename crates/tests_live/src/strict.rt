@@ -39,14 +39,14 @@ fn served<R: Threads + Wait + Clock + Net<Listener = TcpListener, Stream = TcpSt
     is_strict: bool,
     said: Said,
 ) -> Option<Served<MemoryDisk>> {
-    let (ends, ports) = bound(rt)?;
+    let (listener, socket, ports) = bound(rt)?;
     let told = Told::new();
     let told = &told;
     let mut options = options(60, SETTLE_EVERY);
     options.is_strict = is_strict;
     let (served, is_right) = thread::join(
         rt,
-        move || { serve_with(rt, alloc, ends, disk, &options, told.reporter()).ok() },
+        move || { serve_with(rt, alloc, listener, socket, disk, &options, told.reporter()).ok() },
         move || is_answered(rt, alloc, ports, told, said),
     );
     if is_right { served } else { None }

@@ -6,8 +6,6 @@
 #[cfg(test)]
 mod captures;
 #[cfg(test)]
-mod checkpoints;
-#[cfg(test)]
 mod compactions;
 #[cfg(test)]
 mod damage;

@@ -15,7 +15,6 @@ mod RestartLemmas
 mod CompactLemmas
 mod BeginLemmas
 mod LineLemmas
-mod CheckpointLemmas
 mod ScriptLemmas
 mod WholeLemmas
 mod GoingOnLemmas
