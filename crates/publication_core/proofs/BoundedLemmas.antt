@@ -21,7 +21,7 @@ use Rattle.image_core.specs.Stock.{are_near}
 use Rattle.image_core.specs.Take.{GivesBlock}
 use Rattle.image_core.proofs.ChainLemmas.{chain_low, chain_over, chain_up}
 use Rattle.publication_core.specs.declared.datagram.Datagram.{Datagram}
-use Rattle.publication_core.specs.Bounded.{BoundedTurn, CallsSender, GivesOn, HasRoomForAll, MayBeOffered, MeetBounded, NamesAtMost, OffersFrames, calls_of, image_after, offered_by}
+use Rattle.publication_core.specs.Bounded.{BoundedTurn, CallsSender, GivesOn, HasRoomForAll, MayBeOffered, MeetBounded, NamesAtMost, OffersFrames, sender_calls, image_after, offered_by}
 use Rattle.publication_core.specs.Copies.{AreFirst, AreRecorded, BeginsWith, HasCome, HaveCome, IsInReach, IsRecordedStream}
 use Rattle.publication_core.specs.Flows.{after_datagram, may_go}
 use Rattle.publication_core.specs.Meeting.{Called, Came, HasGone, IsTrueOf, MayCome, Meet, Turn, came, first_asked_of, first_waiting_of, goes_out}
@@ -297,15 +297,15 @@ record IsHandedOn (stream : List (ℕ × Frame)) (ts : List BoundedTurn) (out : 
   stands : StandsFor (received_all all (offered_by ts)) (image_after ts r)
 
 handed_on : (g : Geometry) (publication : Publication) (from to last : ℕ) (stream : List (ℕ × Frame)) (ts : List BoundedTurn) (out : List Datagram) (s : Sending) (r all : Received)
-    → IsRecordedStream g publication from stream to → is_mtu g.mtu ≡ true → IsOrdered s (calls_of ts) last → IsBounded g publication from stream out s r all → MeetBounded stream ts out s r
+    → IsRecordedStream g publication from stream to → is_mtu g.mtu ≡ true → IsOrdered s (sender_calls ts) last → IsBounded g publication from stream out s r all → MeetBounded stream ts out s r
     → IsHandedOn stream ts out s r all
 handed_on g publication from to last stream [] out s r all is mtu order so meet = record { room = tt; meet = tt; stands = so.stands }
 handed_on g publication from to last stream (CallsSender c ∷ ts) out s r all is mtu order so (of, names, meet) =
     let at = standing r all so.stands in
     let low = at.low in
     let same = at.same in
-    let rest = handed_on g publication from to last stream ts (out ++ goes_out c s) (sending_after c s) r all is mtu (ordered_call last c (calls_of ts) s order)
-    (bounded_called g publication from to last stream out s r all c (calls_of ts) is mtu of names order so)
+    let rest = handed_on g publication from to last stream ts (out ++ goes_out c s) (sending_after c s) r all is mtu (ordered_call last c (sender_calls ts) s order)
+    (bounded_called g publication from to last stream out s r all c (sender_calls ts) is mtu of names order so)
     meet in
     record { room = rest.room; meet = (of, names_true s.geometry r.from all c (omega (arith, low, same)) names, rest.meet); stands = rest.stands }
 handed_on g publication from to last stream (OffersFrames fs None new ∷ ts) out s r all is mtu order so (may, lost, meet) =
@@ -326,11 +326,11 @@ handed_on g publication from to last stream (GivesOn b new ∷ ts) out s r all i
     record { room = rest.room; meet = rest.meet; stands = rest.stands }
 
 all_handed_on : (g : Geometry) (publication : Publication) (from to last : ℕ) (stream : List (ℕ × Frame)) (ts : List BoundedTurn) → IsRecordedStream g publication from stream to
-    → is_mtu g.mtu ≡ true → IsChain from (laid_by (calls_of ts)) last → MeetBounded stream ts [] (new_sending g publication from) (begun g publication from)
+    → is_mtu g.mtu ≡ true → IsChain from (laid_by (sender_calls ts)) last → MeetBounded stream ts [] (new_sending g publication from) (begun g publication from)
     → IsHandedOn stream ts [] (new_sending g publication from) (begun g publication from) (begun g publication from)
 all_handed_on g publication from to last stream ts is mtu chain meet =
     handed_on g publication from to last stream ts [] (new_sending g publication from) (begun g publication from) (begun g publication from) is mtu
-    (ordered_new g publication from last (calls_of ts) chain)
+    (ordered_new g publication from last (sender_calls ts) chain)
     (record {
       meeting = starts g publication from stream;
       kept = tt;
@@ -342,17 +342,17 @@ all_handed_on g publication from to last stream ts is mtu chain meet =
     meet
 
 pub bounded_room : (g : Geometry) (publication : Publication) (from to last : ℕ) (stream : List (ℕ × Frame)) (ts : List BoundedTurn) → IsRecordedStream g publication from stream to
-    → is_mtu g.mtu ≡ true → IsChain from (laid_by (calls_of ts)) last → MeetBounded stream ts [] (new_sending g publication from) (begun g publication from)
+    → is_mtu g.mtu ≡ true → IsChain from (laid_by (sender_calls ts)) last → MeetBounded stream ts [] (new_sending g publication from) (begun g publication from)
     → HasRoomForAll stream ts (begun g publication from)
 bounded_room g publication from to last stream ts is mtu chain meet = (all_handed_on g publication from to last stream ts is mtu chain meet).room
 
 pub bounded_stands : (g : Geometry) (publication : Publication) (from to last : ℕ) (stream : List (ℕ × Frame)) (ts : List BoundedTurn) → IsRecordedStream g publication from stream to
-    → is_mtu g.mtu ≡ true → IsChain from (laid_by (calls_of ts)) last → MeetBounded stream ts [] (new_sending g publication from) (begun g publication from)
+    → is_mtu g.mtu ≡ true → IsChain from (laid_by (sender_calls ts)) last → MeetBounded stream ts [] (new_sending g publication from) (begun g publication from)
     → StandsFor (received_all (begun g publication from) (offered_by ts)) (image_after ts (begun g publication from))
 bounded_stands g publication from to last stream ts is mtu chain meet = (all_handed_on g publication from to last stream ts is mtu chain meet).stands
 
 pub bounded_copies : (g : Geometry) (publication : Publication) (from to last front : ℕ) (stream firsts : List (ℕ × Frame)) (ts : List BoundedTurn) → IsRecordedStream g publication from stream to
-    → is_mtu g.mtu ≡ true → IsChain from (laid_by (calls_of ts)) last → MeetBounded stream ts [] (new_sending g publication from) (begun g publication from)
+    → is_mtu g.mtu ≡ true → IsChain from (laid_by (sender_calls ts)) last → MeetBounded stream ts [] (new_sending g publication from) (begun g publication from)
     → AreFirst from stream firsts front → HaveCome (offered_by ts) firsts → BeginsWith firsts front (received_all (begun g publication from) (offered_by ts))
 bounded_copies g publication from to last front stream firsts ts is mtu chain meet first come =
     let it = all_handed_on g publication from to last stream ts is mtu chain meet in

@@ -46,11 +46,11 @@ MeetBounded stream (OffersFrames fs found new ∷ ts) out s r = MayBeOffered out
 MeetBounded stream (GivesOn b new ∷ ts) out s r = GivesBlock r b new × MeetBounded stream ts out s new
 
 -- the calls of the sender
-abbrev pub calls_of : List BoundedTurn → List Call
-calls_of [] = []
-calls_of (CallsSender c ∷ ts) = c ∷ calls_of ts
-calls_of (OffersFrames fs found new ∷ ts) = calls_of ts
-calls_of (GivesOn b new ∷ ts) = calls_of ts
+abbrev pub sender_calls : List BoundedTurn → List Call
+sender_calls [] = []
+sender_calls (CallsSender c ∷ ts) = c ∷ sender_calls ts
+sender_calls (OffersFrames fs found new ∷ ts) = sender_calls ts
+sender_calls (GivesOn b new ∷ ts) = sender_calls ts
 
 -- the frames that were offered
 abbrev pub offered_by : List BoundedTurn → List Frame

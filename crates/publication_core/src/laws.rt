@@ -10,7 +10,7 @@ ghost use Rattle.frame_core.specs.Datagram.{IsDatagram};
 ghost use Rattle.frame_core.specs.FrameEncoding.{IsAligned};
 ghost use Rattle.frame_core.specs.Limits.{is_mtu, is_term_length};
 ghost use Rattle.image_core.specs.Received.{IsBegun, IsChain, StandsFor, begun, received_all};
-ghost use Rattle.publication_core.specs.Bounded.{BoundedTurn, HasRoomForAll, MeetBounded, calls_of, image_after, offered_by};
+ghost use Rattle.publication_core.specs.Bounded.{BoundedTurn, HasRoomForAll, MeetBounded, sender_calls, image_after, offered_by};
 ghost use Rattle.publication_core.specs.declared.datagram.Datagram.{Datagram};
 ghost use Rattle.publication_core.specs.Keeping.{EndsInItsTerm, EndsPast};
 ghost use Rattle.publication_core.specs.Runs.{AreMadeOf, AreOfStream, AreShort, Call, IsMadeOf, IsWithinReach, after_calls, after_sending};
@@ -164,20 +164,20 @@ pub fn what_a_sender_sends_has_room_in_a_bounded_image()
     ensures room { (g : Geometry) (publication : Publication) (from to last : ℕ)
         (stream : List (ℕ × Frame)) (ts : List BoundedTurn)
         → IsRecordedStream g publication from stream to → is_mtu g.mtu ≡ true
-        → IsChain from (laid_by (calls_of ts)) last
+        → IsChain from (laid_by (sender_calls ts)) last
         → MeetBounded stream ts [] (new_sending g publication from) (begun g publication from)
         → HasRoomForAll stream ts (begun g publication from) }
     ensures same { (g : Geometry) (publication : Publication) (from to last : ℕ)
         (stream : List (ℕ × Frame)) (ts : List BoundedTurn)
         → IsRecordedStream g publication from stream to → is_mtu g.mtu ≡ true
-        → IsChain from (laid_by (calls_of ts)) last
+        → IsChain from (laid_by (sender_calls ts)) last
         → MeetBounded stream ts [] (new_sending g publication from) (begun g publication from)
         → StandsFor (received_all (begun g publication from) (offered_by ts))
         (image_after ts (begun g publication from)) }
     ensures copy { (g : Geometry) (publication : Publication) (from to last front : ℕ)
         (stream firsts : List (ℕ × Frame)) (ts : List BoundedTurn)
         → IsRecordedStream g publication from stream to → is_mtu g.mtu ≡ true
-        → IsChain from (laid_by (calls_of ts)) last
+        → IsChain from (laid_by (sender_calls ts)) last
         → MeetBounded stream ts [] (new_sending g publication from) (begun g publication from)
         → AreFirst from stream firsts front → HaveCome (offered_by ts) firsts
         → BeginsWith firsts front (received_all (begun g publication from) (offered_by ts)) }
