@@ -4,7 +4,6 @@ ghost use Rattle.std.specs.Prelude.{◌≡◌, [], ℤ, Err, IfOk, IfErr, IsErrO
 ghost use Rattle.frame_core.specs.declared.refusal.Refusal.TheVariants.{NoMemory};
 ghost use Rattle.archive_model.specs.declared.reply.Reply.TheVariants.{Settled};
 ghost use Rattle.control_core.specs.declared.event.Event.TheVariants.{Settle, Write};
-ghost use Rattle.engine_core.specs.Grouping.{segments_each};
 ghost use Rattle.archive_lock.specs.History.{EndsWithAnswer, IsNoted, LeadsToDesk, SeesDesk};
 ghost use Rattle.archive_lock.specs.Standing.{standing_of};
 ghost use Rattle.recorder_seats.specs.Seat.{RaisedAreSettled, raised_positions, raised_unless_below, settling_outcome};
@@ -13,7 +12,7 @@ use archive_lock::{Made, Naming, SharedArchive, Standing};
 use archive_model::Reply;
 use call_history::Pass;
 use control_core::Event;
-use disk_core::{Disk, FileId};
+use disk_core::Disk;
 use frame_core::{Block, Refusal};
 use position_board::{Board, Writer};
 use std::alloc::Global;
@@ -146,24 +145,6 @@ impl RecorderSeat {
         ensures same { self.new ≡ record self.old { pass = self.new.pass } }
     {
         archive.standing(rt, &mut self.pass)
-    }
-
-    /// The segment files of what these sessions wrote and did not settle, for which it takes the lock: the pass sees all calls so
-    /// far, and makes none. `NoMemory`. docs/STORAGE.md, "Segments".
-    pub fn unsettled_segments<D: Disk, A: Naming, R: Wait>(
-        &mut self,
-        rt: &R,
-        alloc: Global,
-        archive: &SharedArchive<D, A>,
-        sessions: &[i64],
-    ) -> Result<Vec<FileId>, Refusal>
-        requires { self.old.pass.table ≡ A.table }
-        ensures sees { SeesDesk A.opening self.old.pass
-            (λ d. IfOk result (λ files. files.items ≡ segments_each d sessions.now)) self.new.pass }
-        ensures refused { IfErr result (λ refusal. refusal ≡ NoMemory) }
-        ensures same { self.new ≡ record self.old { pass = self.new.pass } }
-    {
-        archive.unsettled_segments(rt, alloc, &mut self.pass, sessions)
     }
 
     /// Settles the session: one call, whose answer it gives, the position up to which the recording is then recorded, in

@@ -32,7 +32,7 @@ pub record IsSign (g : Geometry) (publication : Publication) (flags position : �
   pub reserved : f.reserved ≡ pos 0
   pub payload : f.payload ≡ []
 
--- its flags, by what it tells: begin and end of a message; with the flag of a stream's end; and with that of a failure
+-- its flags, by what it says: begin and end of a message; with the flag of a stream's end; and with that of a failure
 abbrev pub flags_of : Sign → ℕ
 flags_of Alive = 192
 flags_of Ended = 224

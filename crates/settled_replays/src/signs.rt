@@ -7,7 +7,7 @@ ghost use Rattle.settled_replays.specs.Sending.{IsSign, IsSignBytes, is_in_terms
 
 use frame_core::{FrameKind, FrameRef, Geometry, Publication, term_of};
 
-/// What a heartbeat tells a follower, as its flags.
+/// What a heartbeat says to a follower, as its flags.
 #[derive(Clone, Copy, Debug, PartialEq, Eq)]
 pub enum Sign {
     /// Nothing comes at the moment.
