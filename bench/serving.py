@@ -1,7 +1,7 @@
 #!/usr/bin/env python3
 """Measures a served archive: frames of 1,408 bytes from a sender on this machine into a folder.
 
-Usage: bench/serving.py [--frames N] [--runs N] [program], on the file system of TRIAL_ROOM, else that of TMPDIR. First:
+Usage: bench/serving.py [--frames N] [--runs N] [--beside] [program], on the file system of TRIAL_ROOM, else that of TMPDIR. First:
 cd crates/trial_lock && rt run -- memory 1 1
 
 Four kinds of run come in turn:
@@ -9,11 +9,15 @@ Four kinds of run come in turn:
 - a sender that is at most 768 KiB ahead of what `positions` shows (sender.rs), to `serve` with a receive buffer of 8 MiB;
 - the same beside a late consumer: a client that replays the recording from its beginning, again and again, 4,096 frames a poll;
 - what one thread settles there by the library, in batches of 16 blocks of 46 frames.
+
+With --beside these come instead: the sender with flow control alone, beside 1 and 4 clients that poll 64, 256 and 4,096 frames without
+a pause, beside 1, 4 and 10 followers, and beside 64 consumers that send `list 0 1024` and `follow` without a pause.
 A sender sends again what is asked for, and is done when every byte is recorded. Only root may enlarge the buffer (docs/SERVING.md):
 while a server starts, `net.core.rmem_default` of the machine is 8 MiB. If it can't be set, the first two kinds are not compared.
 """
 import argparse
 import os
+import socket
 import statistics
 import subprocess
 import sys
@@ -28,27 +32,30 @@ from measure import compiled
 from lib.tool import ROOT, Fault, conclude, expect, file_system, program, room, run, stop_positions
 
 sys.path.insert(0, str(ROOT / "trials"))
-from serving import Server, settles  # noqa: E402
+from serving import Server, free_port, settles  # noqa: E402
 
 LIBRARY = ROOT / "crates/trial_lock/out/trial_lock"
 FRAME = 1_408
 BLOCK = 46 * FRAME
 BATCH = 16
 LEAST, GOAL, BESIDE_POLLS = 0.5, 0.8, 0.9
-POLL = b"poll %d 4096\n"
 BUFFER, LARGE_BUFFER = Path("/proc/sys/net/core/rmem_default"), 8_388_608
 
 
 @dataclass(frozen=True)
 class Kind:
-    """A sender and its server: their options, how large the server's receive buffer is, if it isn't the system's default, and whether
-    a client polls meanwhile."""
+    """A sender and its server: their options, how large the server's receive buffer is, if it isn't the system's default, how many
+    clients poll meanwhile, and how many frames a poll, how many follow, and how many consumers ask without a pause."""
 
     name: str
     sender: tuple[str, ...]
     server: tuple[str, ...]
     buffer: int | None
-    is_polled: bool = False
+    polls: int = 0
+    frames: int = 4_096
+    follows: int = 0
+    asks: int = 0
+    goal: float | None = None  # of frames a second in ratio to none of these
 
 
 @dataclass(frozen=True)
@@ -78,7 +85,9 @@ def started(tool: Path, folder: Path, kind: Kind) -> Server:
     """A server whose socket has its receive buffer."""
     run([tool, "create", folder, "--history", "16777216"])
     with receive_buffer(kind.buffer):
-        server = Server(tool, folder, *kind.server)
+        consumers = free_port(socket.SOCK_STREAM) if kind.asks else 0
+        server = Server(tool, folder, *kind.server, *(["--consumers", str(consumers)] if consumers else []))
+        server.consumers = consumers
         until = time.monotonic() + 10
         while not server.socket_words() and time.monotonic() < until:
             time.sleep(0.01)
@@ -88,9 +97,9 @@ def started(tool: Path, folder: Path, kind: Kind) -> Server:
 class LateConsumer(threading.Thread):
     """A client that replays a server's first recording from its beginning, and begins again where it comes to what is recorded."""
 
-    def __init__(self, server: Server) -> None:
+    def __init__(self, server: Server, frames: int) -> None:
         super().__init__()
-        self.client, self.is_over, self.bytes = server.client(), False, 0
+        self.client, self.is_over, self.bytes, self.frames = server.client(), False, 0, frames
 
     def run(self) -> None:
         try:
@@ -116,7 +125,7 @@ class LateConsumer(threading.Thread):
 
     def poll(self, replay: int) -> bytes:
         """The last line of a poll's reply."""
-        self.client.socket.sendall(POLL % replay)
+        self.client.socket.sendall(b"poll %d %d\n" % (replay, self.frames))
         held = last = b""
         while not held.endswith(b"\n") or last.startswith(b"frame "):
             came = self.client.socket.recv(1_048_576)
@@ -128,17 +137,61 @@ class LateConsumer(threading.Thread):
         return last
 
 
+class FollowingConsumer(threading.Thread):
+    """A client that follows a server's first recording from its beginning, and counts the bytes that come."""
+
+    def __init__(self, server: Server) -> None:
+        super().__init__()
+        self.server, self.is_over, self.bytes = server, False, 0
+
+    def run(self) -> None:
+        taken = bytearray(1_048_576)
+        while not self.is_over:
+            try:
+                with socket.create_connection(("127.0.0.1", self.server.control), timeout=1) as connection:
+                    connection.sendall(b"follow 0 0 -1\n")
+                    while count := connection.recv_into(taken):
+                        self.bytes += count
+                        if taken[:6] == b"error ":
+                            break  # nothing is recorded yet
+            except OSError:
+                pass
+            time.sleep(0.02)
+
+
+class AskingConsumer(threading.Thread):
+    """A client at the port of consumers that lists and follows without a pause, each follow for as long as its answer takes."""
+
+    def __init__(self, server: Server) -> None:
+        super().__init__()
+        self.server, self.is_over, self.bytes = server, False, 0
+
+    def run(self) -> None:
+        while not self.is_over:
+            try:
+                with socket.create_connection(("127.0.0.1", self.server.consumers), timeout=1) as connection:
+                    connection.sendall(b"list 0 1024\n" * 16 + b"follow 0 0 -1\n")
+                    while b"follow" not in (came := connection.recv(65_536)) and came:
+                        self.bytes += len(came)
+                    self.bytes += len(came)
+            except OSError:
+                pass
+
+
 @contextmanager
-def polled(server: Server, is_polled: bool) -> Iterator[LateConsumer | None]:
-    """Has a late consumer poll meanwhile, if one shall."""
-    consumer = LateConsumer(server) if is_polled else None
-    if consumer:
+def consumed(server: Server, kind: Kind) -> Iterator[list[LateConsumer | FollowingConsumer | AskingConsumer]]:
+    """Has so many clients poll, follow and ask meanwhile."""
+    consumers = [LateConsumer(server, kind.frames) for _ in range(kind.polls)]
+    consumers += [FollowingConsumer(server) for _ in range(kind.follows)]
+    consumers += [AskingConsumer(server) for _ in range(kind.asks)]
+    for consumer in consumers:
         consumer.start()
     try:
-        yield consumer
+        yield consumers
     finally:
-        if consumer:
+        for consumer in consumers:
             consumer.is_over = True
+        for consumer in consumers:
             consumer.join()
 
 
@@ -154,7 +207,7 @@ def served(tool: Path, sender: Path, folder: Path, frames: int, kind: Kind) -> F
     words = [sender, str(server.control), str(server.receive), str(frames), str(FRAME), *kind.sender]
     process = subprocess.Popen(words, stdout=subprocess.PIPE, text=True)
     lost, spent = 0, began
-    with polled(server, kind.is_polled) as consumer:
+    with consumed(server, kind) as consumers:
         while process.poll() is None:
             try:
                 lost, spent = max(lost, server.dropped()), processor_seconds(server.process.pid)
@@ -170,9 +223,8 @@ def served(tool: Path, sender: Path, folder: Path, frames: int, kind: Kind) -> F
     expect("what is recorded", stop_positions(tool, folder), [position])
     counts = server.counts()
     seconds = microseconds / 1e6
-    if consumer:
-        expect("whether the late consumer was given frames", consumer.bytes > 0, True)
-    read = f"{consumer.bytes / seconds / 1e6:,.0f} MB a second of replies read, " if consumer else ""
+    expect("whether each consumer was given frames", all(consumer.bytes > 0 for consumer in consumers), True)
+    read = f"{sum(it.bytes for it in consumers) / seconds / 1e6:,.0f} MB a second read by {len(consumers)}, " if consumers else ""
     rest = (f"{read}dropped by the system {lost}, NAKs {naks}, sent again {repeats}, status messages {status_messages}; the server counted "
             + ", ".join(f"{name} {count}" for name, count in counts.items()))
     return Found(frames / seconds, entries / seconds, (spent - began) / counts["datagrams"] * 1e6, rest)
@@ -193,7 +245,19 @@ def kinds() -> list[Kind]:
     print(f"the system's default receive buffer has {BUFFER.read_text().strip()} bytes"
           + ("" if large else "; it can't be enlarged here"), flush=True)
     return [Kind("with flow control", ("--flow-control",), ("--aeron",), None), Kind("paced by `positions`", (), (), large),
-            Kind("paced, beside polls", (), ("--clients", "2"), large, is_polled=True)]
+            Kind("paced, beside polls", (), ("--clients", "2"), large, polls=1)]
+
+
+def kinds_beside() -> list[Kind]:
+    """The kinds of run of a sender with flow control alone and beside clients, with their goals of its rate."""
+    flow, server = ("--flow-control",), ("--aeron", "--clients", "16")
+    polls = [Kind(f"beside {count} that poll {frames}", flow, server, None, polls=count, frames=frames,
+                  goal=0.3 if (count, frames) == (4, 4_096) else None)
+             for count in (1, 4) for frames in (64, 256, 4_096)]
+    follows = [Kind(f"beside {count} that follow", flow, server, None, follows=count, goal=goal)
+               for count, goal in ((1, 0.9), (4, 0.9 if (os.cpu_count() or 1) >= 10 else 0.5), (10, None))]
+    asks = Kind("beside 64 consumers that ask", flow, server, None, asks=64, goal=0.5)
+    return [Kind("alone", flow, server, None), *polls, *follows, asks]
 
 
 def medians(found: list[Found]) -> Found:
@@ -216,11 +280,22 @@ def conclusion(served_by: dict[Kind, list[Found]], theirs: list[float]) -> int:
     return 0 if to_library >= LEAST and (to_paced >= GOAL or not is_compared) else 1
 
 
+def conclusion_beside(served_by: dict[Kind, list[Found]]) -> int:
+    """Prints the ratio of each kind to the first one; the status."""
+    found = {kind: medians(runs) for kind, runs in served_by.items()}
+    alone = next(iter(found.values())).rate
+    print(f"alone {alone:,.0f} frames a second, {os.cpu_count()} processors")
+    for kind, median in found.items():
+        print(f"{kind.name}: {median.rate / alone:.2f}" + (f" (goal {kind.goal})" if kind.goal else ""), flush=True)
+    return 0 if all(median.rate >= (kind.goal or 0) * alone for kind, median in found.items()) else 1
+
+
 def main() -> int:
     words = argparse.ArgumentParser(description=__doc__, formatter_class=argparse.RawDescriptionHelpFormatter)
     words.add_argument("program", nargs="?", help="else that of ARCHIVE_TOOL, else the built one")
     words.add_argument("--frames", type=int, default=400_000)
     words.add_argument("--runs", type=int, default=5)
+    words.add_argument("--beside", action="store_true", help="alone, and beside clients that poll, follow and ask")
     asked = words.parse_args()
     tool = program(asked.program)
     with room() as work:
@@ -228,7 +303,7 @@ def main() -> int:
         alone = subprocess.run([sender, "alone", str(asked.frames), str(FRAME)], capture_output=True, text=True, check=True)
         print(f"the sender alone: {asked.frames / int(alone.stdout.split()[0]) * 1e6:,.0f} frames a second", flush=True)
         print(f"over {file_system(work)}, {asked.frames} frames of {FRAME} bytes", flush=True)
-        ours: dict[Kind, list[Found]] = {kind: [] for kind in kinds()}
+        ours: dict[Kind, list[Found]] = {kind: [] for kind in (kinds_beside() if asked.beside else kinds())}
         theirs = []
         for index in range(asked.runs):
             for number, kind in enumerate(ours):
@@ -236,9 +311,10 @@ def main() -> int:
                 ours[kind].append(found)
                 print(f"{kind.name}: {found.rate:,.0f} frames and {found.entries:,.0f} entries a second, {found.processor:.2f} "
                       f"microseconds of a processor for each datagram; {found.rest}", flush=True)
-            theirs.append(library(work / f"library-{index}", asked.frames))
-            print(f"by the library: {theirs[-1]:,.0f} frames a second", flush=True)
-        return conclusion(ours, theirs)
+            if not asked.beside:
+                theirs.append(library(work / f"library-{index}", asked.frames))
+                print(f"by the library: {theirs[-1]:,.0f} frames a second", flush=True)
+        return conclusion_beside(ours) if asked.beside else conclusion(ours, theirs)
 
 
 if __name__ == "__main__":

@@ -9,9 +9,10 @@ for. It keeps all that it sent. No receiver says what it received, so the sender
 
 With --flow-control it follows the status messages of a receiver, as an Aeron media driver does:
 - It sends a setup frame each 100 milliseconds until the first status message, and one more if a status message asks for it.
-- It never sends past the limit: a status message's consumed position and its window, the greatest that came.
+- It never sends past the limit: a status message's consumed position and its window, the greatest that came. A pad counts by its
+  header, so the stream may come further.
 - It sends a heartbeat each 100 milliseconds while it is held at the limit, or has no message.
-- It answers no NAK frame for what it has sent again in the last 60 milliseconds.
+- It answers a NAK frame from half a term before what it has sent, and none for what it has sent again in the last 60 milliseconds.
 - It takes the receiver for gone after 5 seconds without a status message. It sends no frame until the next one comes.
 - After its last message it waits until the receiver has consumed all, or is gone, before it lingers. The status is 1 if it is gone.
 
@@ -221,7 +222,7 @@ class FlowControlled(Sender):
         now = time.monotonic()
         status = self.publication.status(datagram)
         asked = self.publication.range_of(datagram)
-        if asked and self.is_answered(asked, now):
+        if asked and (not self.is_kept(asked) or self.is_answered(asked, now)):
             self.naks += 1
         elif status is None:
             super().take(datagram)
@@ -232,6 +233,10 @@ class FlowControlled(Sender):
             self.status_came = now
             self.consumed = max(self.consumed, status.consumed)
             self.limit = max(self.limit, status.limit)
+
+    def is_kept(self, asked: range) -> bool:
+        """Whether a driver would still have it in its term buffers: it begins at most half a term before what was sent."""
+        return self.position - self.publication.term_length // 2 <= asked.start < self.position
 
     def is_answered(self, asked: range, now: float) -> bool:
         """Whether positions were sent again lately. If not, it notes that they are sent now."""
@@ -244,7 +249,7 @@ class FlowControlled(Sender):
     def send_next(self) -> bool:
         """Sends the next frame, if there is a receiver that has room for it; whether it did."""
         frame, covers = self.publication.frames[self.position]
-        if not self.is_connected or self.position + covers > self.limit:
+        if not self.is_connected or self.position + aligned(len(frame)) > self.limit:
             return False
         self.send(frame)
         self.position += covers

@@ -1,7 +1,8 @@
 """What the tools know of the repository: its crates, and which of them stand on which.
 
-Usage: tools/repository.py   asks what no clause can say of a crate's text: that followers take no lock. The crate position_board
-names no lock, and its board has nothing but the table of its positions. It prints what it finds, with status 1
+Usage: tools/repository.py   asks what no clause can say of the crates' text: that followers take no lock, since position_board
+names none, and its board has nothing but the table of its positions; and that the metrics have the version which `--version`
+prints. It prints what it finds, with status 1
 """
 import re
 import sys
@@ -44,10 +45,19 @@ def fields_beside(text: str) -> list[str]:
     return found + ([] if WORDS in text else [f"{BOARD}: its table is another one than {WORDS}"])
 
 
+def versions() -> list[str]:
+    """The program's version, where the program prints one and the metrics have another."""
+    printed = re.search(r'VERSION: &str =\s*"(\S+) ', (ROOT / "crates/command_line/src/version.rt").read_text())
+    measured = re.search(r'PROGRAM_VERSION: &str = "(\S+)";', (ROOT / "crates/folder_commands/src/serving.rt").read_text())
+    if not printed or not measured:
+        return ["no version is found in command_line and folder_commands"]
+    return [] if printed[1] == measured[1] else [f"--version prints {printed[1]}, and the metrics have {measured[1]}"]
+
+
 def main() -> int:
     folder = ROOT / BOARD
-    found = locks_in(folder) + fields_beside(code_of((folder / "board.rt").read_text()))
-    print("\n".join(found) or "position_board names no lock, and its board is a table alone")
+    found = locks_in(folder) + fields_beside(code_of((folder / "board.rt").read_text())) + versions()
+    print("\n".join(found) or "position_board names no lock, its board is a table alone, and the metrics have the program's version")
     return 1 if found else 0
 
 

@@ -9,7 +9,8 @@ bash. Under each stands all that it prints on either stream; a line `...` leaves
 A command that README.md, SERVING.md or CONTROL.md shows elsewhere is run too: one of a folder or a file in a piece of code, or
 one of /usr/local/bin/archive_tool. It is run over a recorded archive, with a value for each <word>, once with all that stands
 in brackets and once without, and has to end with status 0.
-What proves (`rt ci`, `tools/libraries.py`) is not run again. Status 1 if anything differs.
+What proves (`rt ci`, `tools/libraries.py`) is not run again. The followers of examples/ are checked against a small server
+(trials/lib/followers.py). The unit that SERVING.md prints has to be the one of examples/operations/. Status 1 if anything differs.
 """
 import os
 import re
@@ -23,8 +24,12 @@ from pathlib import Path
 
 from repository import ROOT
 
+sys.path.insert(0, str(ROOT / "trials"))
+from lib import followers  # noqa: E402
+
 PAGES = [ROOT / "README.md", ROOT / "CONTRIBUTING.md", ROOT / "SECURITY.md", *sorted((ROOT / "docs").glob("*.md"))]
 BLOCK = re.compile(r"^```console\n(.*?)^```$", re.M | re.S)
+UNIT = re.compile(r"^```ini\n(.*?)^```$", re.M | re.S)
 LINK = re.compile(r"\[[^\]]*\]\(([^)\s]+)\)")
 TOOLCHAIN = re.compile(r"rattle-kit-(\d+)([a-z]*)( or later|)`?,?(?: of|) logic `?(\w+)")
 PROVES = re.compile(r"^rt (ci|check|test)\b")
@@ -36,7 +41,7 @@ SHOWING = [ROOT / "README.md", ROOT / "docs/SERVING.md", ROOT / "docs/CONTROL.md
 WORD = r"(?:create|run|serve|compact|list|describe|verify|export|frames)"
 SHOWN = re.compile(
     rf"`(?:archive_tool )?({WORD} [^`\n]*[<\[](?:folder|copy|file)[>\]][^`\n]*|(?:<command> )?--(?:help|version))`"
-    rf"|/usr/local/bin/archive_tool ({WORD} .*)$",
+    rf"|/usr/local/bin/archive_tool ({WORD} (?:.*\\\n)*.*)$",
     re.M,
 )
 
@@ -80,7 +85,7 @@ def shown_commands(page: Path) -> list[str]:
     """The commands that a page shows outside its sessions, each once without and once with what stands in brackets."""
     found = []
     for one, other in SHOWN.findall(BLOCK.sub("", page.read_text())):
-        command = one or other
+        command = re.sub(r"\\\n +", "", one or other)
         found += [re.sub(r" ?\[[^\]]*\]", "", command), re.sub(r"[\[\]]", "", command.replace("[folder]", "<folder>"))]
     return list(dict.fromkeys(found))
 
@@ -97,7 +102,7 @@ def filled(command: str, folder: Path, control: int) -> list[str]:
     receive = free_port(socket.SOCK_DGRAM)
     values = [
         (r"(?<=^create )\S+", str(folder / "new")), (r"<folder>|<copy>|/var/lib/recorder", str(folder / "archive")),
-        (r"(?<=--pcap )<file>", str(folder / "frames.pcap")), (r"(?<=--metrics )<file>", str(folder / "metrics")),
+        (r"(?<=--pcap )<file>", str(folder / "frames.pcap")), (r"(?<=--metrics )\S+", str(folder / "metrics")),
         (r"<file>", str(folder / "archive/0-0.rec")),
         (r"(?<=--control )\S+", str(control)), (r"(?<=--receive )\S+", str(receive)), (r"<IPv4 address>", "127.0.0.1"),
         (r"(?<=--to )<position>", "128"), (r"<recording>|<position>", "0"), (r"<seconds>|<entries>|<milliseconds>", "60"), (r"<bytes>", "65536"),
@@ -130,6 +135,13 @@ def refused(page: Path, program: Path) -> Iterator[str]:
             printed.seek(0)
             if status:
                 yield f"{page.relative_to(ROOT)}: {command}\n  status {status}: {printed.read()!r}"
+
+
+def other_units() -> Iterator[str]:
+    """The unit that SERVING.md prints, if it is not the one of examples/operations/, or not the only one."""
+    page, file = ROOT / "docs/SERVING.md", ROOT / "examples/operations/recorder.service"
+    if UNIT.findall(page.read_text()) != [file.read_text()]:
+        yield f"{page.relative_to(ROOT)}: it does not print {file.relative_to(ROOT)}, or prints another unit"
 
 
 def anchor(head: str) -> str:
@@ -171,7 +183,7 @@ def main() -> int:
     program = Path(named).resolve()
     if not os.access(program, os.X_OK):
         sys.exit(f"there is no program {program}")
-    found = [*other_toolchains(program), *(it for page in PAGES for it in dead_links(page))]
+    found = [*other_toolchains(program), *other_units(), *(it for page in PAGES for it in dead_links(page))]
     count = 0
     for page in PAGES:
         count += sum(not PROVES.search(command) for session in sessions(page.read_text()) for command, _ in session)
@@ -180,6 +192,9 @@ def main() -> int:
     for page in SHOWING:
         count += len(shown_commands(page))
         found += refused(page, program)
+    with tempfile.TemporaryDirectory() as room:
+        for name, command in followers.followers(Path(room)).items():
+            found += followers.differences(name, command)
     print("".join(f"{it}\n" for it in found), end="")
     print(f"{count} commands were run, {len(found)} findings")
     return 1 if found else 0

@@ -9,7 +9,7 @@ with a new session id takes its place; at random moments the server is killed, a
 - A position that `list`, `positions` or the metrics file showed before a kill is in some recording of that session afterwards.
 - The metrics file is read four times a second: each time it is whole, and no counter falls within a life of the server.
 - What no recording has lies between the end of one recording of a session and the join of the next: the trial prints how much.
-- The server goes on with a recording if an image joins where it was stopped, and begins one if it does not.
+- The server goes on with a recording where it was stopped, up to half a term and an eighth before the sender, and begins one if not.
 - The server stays below its bound of memory.
 
 Then a few days more, in which no sender ends, and each one that finds its recording stopped goes back to where that ends. Each of them

@@ -4,7 +4,7 @@
 Usage: trials/flow_control.py [--seed S] [--only TRIAL] [--frames N] [--restarts N] [--messages N] [--seconds N] [program]
 
 Each trial starts `serve --aeron` over a folder of its own. The senders are those of `examples/sender.py --flow-control`. Each status
-message has to name the right window, and a consumed position that never falls and was sent.
+message has to name the right window, and a consumed position that was sent, and never falls while an image stays.
 - losses: a million frames, of which one in a hundred is lost, doubled or swapped. Every byte is recorded. For each lost frame at most
   three are sent again.
 - stopped: the server is stopped by SIGSTOP for three seconds. No frame is lost past the stock of its image.
@@ -39,7 +39,7 @@ from lib.tool import (
 )
 
 sys.path.insert(0, str(ROOT / "examples"))
-from sender import IDLE_SECONDS, STATUS, FlowControlled, Publication, kind_of  # noqa: E402
+from sender import IDLE_SECONDS, STATUS, FlowControlled, Publication, aligned, kind_of  # noqa: E402
 
 WINDOW, SHORTEST_WINDOW = 131_072, 4_096
 MOST_REPEATS = MOST_NAKS = 3  # for each lost frame; for each lost or swapped datagram
@@ -63,16 +63,22 @@ class FaultySender(FlowControlled):
         for sent in self.faults.sent_for(datagram):
             super().send(sent)
 
+    def go_to(self, position: int) -> None:
+        super().go_to(position)
+        self.least = 0  # consumed position that the next status message may name
+
     def take(self, datagram: bytes) -> None:
-        """Follows a datagram. A status message has to name the right window, and a consumed position that never falls and was sent."""
+        """Follows a datagram. A status message has to name the right window, and a consumed position that was sent. It never falls, but
+        with another image: a setup frame is asked for then, and the image may begin before it, where a recording stands."""
         status = self.publication.status(datagram)
         if status is not None:
             self.status_messages.append(datagram)
             expect("bytes of a status message", (len(datagram), *struct.unpack_from("<iB", datagram)), (36, 36, 0))
             window = 0 if status.asks_for_setup else self.window
             expect("a receiver window", status.limit - status.consumed, window)
-            if not status.asks_for_setup and not self.consumed <= status.consumed <= self.position:
-                raise Fault(f"consumed {status.consumed}, after {self.consumed}, and sent up to {self.position}")
+            if not status.asks_for_setup and not self.least <= status.consumed <= self.position:
+                raise Fault(f"consumed {status.consumed}, after {self.least}, and sent up to {self.position}")
+            self.least = 0 if status.asks_for_setup else status.consumed
         elif kind_of(datagram) == STATUS:
             raise Fault(f"a status message of another publication: {datagram.hex()}")
         super().take(datagram)
@@ -85,8 +91,8 @@ class FaultySender(FlowControlled):
 
     def is_held(self) -> bool:
         """Whether a frame waits that may not be sent."""
-        covers = self.publication.frames.get(self.position, (b"", 0))[1]
-        return covers > 0 and self.position + covers > self.limit
+        frame, covers = self.publication.frames.get(self.position, (b"", 0))
+        return covers > 0 and self.position + aligned(len(frame)) > self.limit
 
     def flush(self) -> None:
         """Sends the frames that wait, once the receiver has room for them."""

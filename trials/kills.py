@@ -8,7 +8,7 @@ may be there, in order, of a settle all blocks or none; nothing else may be. The
 all of them at the end.
 
 Prints rounds, frames and losses, and ends with status 1 where anything is wrong. A kill takes no power away: what the system
-was given stays, synced or not. What a loss of power may leave is tried by power_cuts.py, and on the disk in memory (docs/SCENARIOS.md).
+was given stays, synced or not. With `--history N` the writer makes checkpoints, a history of 100 entries every few milliseconds. What a loss of power may leave is tried by power_cuts.py, and on the disk in memory (docs/SCENARIOS.md).
 """
 import argparse
 import random
@@ -83,8 +83,8 @@ class Recording:
 class Storm:
     """An archive that is written and killed, and what it has to hold."""
 
-    def __init__(self, tool: Path, folder: Path, seed: int) -> None:
-        self.script = [tool, "run", folder]
+    def __init__(self, tool: Path, folder: Path, seed: int, *options: str) -> None:
+        self.script = [tool, "run", folder, *options]
         self.verification = [tool, "verify", folder]
         self.chance = random.Random(seed)
         self.recordings = [Recording(0)]
@@ -234,14 +234,16 @@ def main() -> int:
     words = argparse.ArgumentParser(description=__doc__, formatter_class=argparse.RawDescriptionHelpFormatter)
     words.add_argument("program", nargs="?", help="else that of ARCHIVE_TOOL, else the built one")
     words.add_argument("--rounds", type=int, default=200)
+    words.add_argument("--history", type=int, help="the history has so many entries, and the writer makes checkpoints")
     words.add_argument("--seed", type=int, default=random.SystemRandom().randrange(10**9))
     asked = words.parse_args()
     tool = program(asked.program)
     with room() as folder:
         print(f"seed {asked.seed}, on {file_system(folder)}", flush=True)
-        storm = Storm(tool, folder, asked.seed)
+        is_short = asked.history is not None
+        storm = Storm(tool, folder, asked.seed, *(["--checkpoints"] if is_short else []))
         try:
-            run([tool, "create", folder])
+            run([tool, "create", folder, *(["--history", str(asked.history)] if is_short else [])])
             while storm.rounds < asked.rounds:
                 storm.round()
             storm.end()

@@ -11,9 +11,10 @@ answered either nothing or all of it: told by `list`, `verify` and a replay of e
 of an archive that answered these lines alone, in memory. Every other script begins with a catalogue of version 1, which its
 `compact` writes in version 2.
 
-Usage: trials/power_cuts.py [--images N] [--seed S] [--jobs J] [--scripts K] [--skip N] [program]. Prints how many images were
+Usage: trials/power_cuts.py [--images N] [--seed S] [--jobs J] [--scripts K] [--checkpoints] [--skip N] [program]. Prints how many images were
 opened, of how many moments; ends with status 1 at the first that is wrong. With `--skip N` every N-th sync of a file answers
-success and is not made (`failing_calls.c`): that has to be found.
+success and is not made (`failing_calls.c`): that has to be found. With `--checkpoints` the scripts make them: a `checkpoint` behind every
+other line, and before each line at which one is due, over a history of 16 entries.
 """
 import argparse
 import os
@@ -26,11 +27,12 @@ from concurrent.futures import ProcessPoolExecutor
 from dataclasses import dataclass, field
 from pathlib import Path
 
-from lib.tool import MTU, Fault, Stream, aligned, create, is_calm, program, room
+from lib.tool import HISTORY_LIMIT, MTU, Fault, Stream, aligned, create, is_calm, program, room
 
 STREAM = Stream(term_length=65_536, segment_length=131_072)
 TRACED = "openat,pwrite64,ftruncate,fdatasync,fsync,unlink,write,close,flock"
 CALL = re.compile(r"^(\w+)\((.*)\)\s+= (-?\d+)")
+SHORT = 16  # entries of a history with checkpoints
 MOST = 4_096  # frames of a poll, more than a recording of a script has
 
 
@@ -260,10 +262,10 @@ def library(work: Path) -> Path:
     return path
 
 
-def traced(tool: Path, lines: list[str], work: Path, skip: int, version: int) -> list[Moment]:
+def traced(tool: Path, lines: list[str], work: Path, skip: int, version: int, options: list[str]) -> list[Moment]:
     """The moments of an archive that answers these lines; each line is sent once the one before it was answered."""
     folder, log = work / "archive", work / "log"
-    create(tool, folder, version=version)
+    create(tool, folder, SHORT if options else HISTORY_LIMIT, version)
     trace = Trace(folder)
     for path in folder.iterdir():
         text = path.read_bytes()
@@ -272,7 +274,7 @@ def traced(tool: Path, lines: list[str], work: Path, skip: int, version: int) ->
     traced_by: list[str | Path] = ["strace", "-qq", "-xx", "-s", "400000", "-e", f"trace={TRACED}", "-o", log]
     if skip:
         traced_by += ["-E", f"LD_PRELOAD={library(work)}", "-E", f"TRIAL_FOLDER={folder}", "-E", f"TRIAL_SKIP={skip}"]
-    process = subprocess.Popen([*traced_by, tool, "run", folder], stdin=subprocess.PIPE, stdout=subprocess.PIPE, text=True)
+    process = subprocess.Popen([*traced_by, tool, "run", folder, *options], stdin=subprocess.PIPE, stdout=subprocess.PIPE, text=True)
     for line in lines:
         process.stdin.write(line + "\n")
         process.stdin.flush()
@@ -289,18 +291,20 @@ def traced(tool: Path, lines: list[str], work: Path, skip: int, version: int) ->
     return trace.moments
 
 
-def tried(tool: Path, seed: int, images: int, skip: int, work: Path) -> tuple[int, int]:
+def tried(tool: Path, seed: int, images: int, skip: int, work: Path, options: list[str]) -> tuple[int, int]:
     """Opens so many images of a script's moments, in a folder of its own: how many moments and images there were."""
     chance = random.Random(seed)
     lines = script_of(chance)
     count = sum(line.startswith("start ") for line in lines)
+    if options:
+        lines = [word for line in lines for word in ([line, "checkpoint"] if chance.random() < 0.5 else [line])]
     work.mkdir()
-    moments = traced(tool, lines, work, skip, 1 + seed % 2)
+    moments = traced(tool, lines, work, skip, 1 + seed % 2, options)
     right: dict[int, list[str]] = {}
 
     def state(answered: int) -> list[str]:
         if answered not in right:
-            right[answered] = shown(tool, None, lines[:answered], count)
+            right[answered] = shown(tool, None, [line for line in lines[:answered] if line != "checkpoint"], count)
         return right[answered]
 
     folder = work / "image"
@@ -324,16 +328,18 @@ def main() -> int:
     given.add_argument("--scripts", type=int, default=50)
     given.add_argument("--seed", type=int, default=1)
     given.add_argument("--jobs", type=int, default=os.cpu_count())
+    given.add_argument("--checkpoints", action="store_true")
     given.add_argument("--skip", type=int, default=0)
     given.add_argument("program", nargs="?")
     words_given = given.parse_args()
     tool = program(words_given.program)
     each = -(-words_given.images // words_given.scripts)
+    options = ["--checkpoints"] * words_given.checkpoints
     moments = images = 0
     print(f"seed {words_given.seed}", flush=True)
     with room("/dev/shm") as work, ProcessPoolExecutor(words_given.jobs) as pool:
         seeds = [words_given.seed * 1_000_003 + number for number in range(words_given.scripts)]
-        runs = [pool.submit(tried, tool, seed, each, words_given.skip, work / str(seed)) for seed in seeds]
+        runs = [pool.submit(tried, tool, seed, each, words_given.skip, work / str(seed), options) for seed in seeds]
         try:
             for one in runs:
                 found = one.result()

@@ -20,9 +20,10 @@ import sys
 import tempfile
 import time
 from collections.abc import Iterator
-from contextlib import contextmanager
+from contextlib import AbstractContextManager, contextmanager
 from dataclasses import replace
 from pathlib import Path
+from typing import TypeVar
 
 from readers.catalogue import SETTLE, read_banks
 from lib.tool import (
@@ -45,6 +46,9 @@ def free_port(kind: int) -> int:
     with socket.socket(socket.AF_INET, kind) as found:
         found.bind(("127.0.0.1", 0))
         return found.getsockname()[1]
+
+
+AnyServer = TypeVar("AnyServer", bound="Server")
 
 
 class Server:
@@ -121,17 +125,28 @@ class Server:
 
 
 @contextmanager
-def served(tool: Path, *options: str) -> Iterator[tuple[Server, Path]]:
-    """A server over an archive in a new folder."""
+def killed_at_last(server: AnyServer) -> Iterator[AnyServer]:
+    """A server, which is killed at the end if it has not ended."""
+    try:
+        yield server
+    finally:
+        if server.process.poll() is None:
+            server.process.kill()
+
+
+@contextmanager
+def served_by(kind: type[AnyServer], tool: Path, *options: str) -> Iterator[tuple[AnyServer, Path]]:
+    """A server of a kind over an archive in a new folder."""
     with room() as folder:
         archive = folder / "archive"
         run([tool, "create", archive, "--history", "16777216"])
-        server = Server(tool, archive, *options)
-        try:
+        with killed_at_last(kind(tool, archive, *options)) as server:
             yield server, archive
-        finally:
-            if server.process.poll() is None:
-                server.process.kill()
+
+
+def served(tool: Path, *options: str) -> AbstractContextManager[tuple[Server, Path]]:
+    """A server over an archive in a new folder."""
+    return served_by(Server, tool, *options)
 
 
 def publication_of(session_id: int) -> Publication:

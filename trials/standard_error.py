@@ -445,7 +445,7 @@ def try_read_only(tool: Program, work: Path) -> None:
 
 
 def try_ports(tool: Program) -> None:
-    """A port that another socket has, of control lines and of datagrams. The folder is not opened."""
+    """A port that another socket has, of control lines and of datagrams. Nothing is made in the folder."""
     for kind, option, other in ((socket.SOCK_STREAM, "--control", "--receive"), (socket.SOCK_DGRAM, "--receive", "--control")):
         with room() as folder, socket.socket(socket.AF_INET, kind) as taken:
             taken.bind(("127.0.0.1", 0))
@@ -454,6 +454,21 @@ def try_ports(tool: Program) -> None:
             row = Row("", words, 3, "", FAULT + f"the port {port} cannot be bound: Address already in use\n")
             expect(f"{option}, taken", tool.run(folder, row), (row.status, row.output, row.error))
             expect(f"{option}, taken: files", list(folder.iterdir()), [])
+
+
+def try_operation(tool: Program) -> None:
+    """An id that isn't there, a server that makes no archive, and one that has a bad name."""
+    with room() as folder:
+        ports = ["--control", str(free_port(socket.SOCK_STREAM)), "--receive", str(free_port(socket.SOCK_DGRAM))]
+        row = Row("", ["serve", ".", *ports, "--no-create"], 1, "", "error 19 NotCatalogue\nthe folder has no archive, and none is made with --no-create\n")
+        expect("serve, no archive", tool.run(folder, row), (row.status, row.output, row.error))
+        expect("serve, no archive: files", list(folder.iterdir()), [])
+        row = Row("", ["serve", ".", *ports, "--name", "a b"], 2, "", "--name wants 1 to 64 of the characters A-Z, a-z, 0-9, _, . and -\n")
+        expect("serve, a bad name", tool.run(folder, row), (row.status, row.output, row.error))
+        tool.script(folder, *RECORDED)
+        for words in (["verify", ".", "7"], ["verify", ".", "7", "--read-only"], ["describe", ".", "7"], ["describe", ".", "7", "--json"]):
+            row = Row("", words, 1, "", "error 1 UnknownRecording\n")
+            expect(f"{words}", tool.run(folder, row), (row.status, row.output, row.error))
 
 
 def try_unread_input(tool: Program) -> None:
@@ -495,6 +510,7 @@ def main() -> int:
         print(f"{len(table)} commands tell what they have to")
         try_use(tool)
         try_ports(tool)
+        try_operation(tool)
         try_unread_input(tool)
         if shutil.which("strace"):
             try_new_folder(tool, work)

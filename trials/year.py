@@ -1,19 +1,21 @@
 #!/usr/bin/env python3
 """One server through as many publications, and as many clients that die, as a year may bring.
 
-Usage: trials/year.py [--seed S] [--only TRIAL] [--publications N] [--clients N] [--silent N] [--memory MB] [program]
+Usage: trials/year.py [--seed S] [--only TRIAL] [--publications N] [--clients N] [--silent N] [--times N] [--memory MB] [program]
 
-The server is `serve --aeron --record --clients 4`. Nobody sends `start`. In all trials it stays below its bound of memory
-(`--memory`; 0 asks for none, as for a build with the address sanitizer), and `quit` ends it with status 0.
+The server is `serve --aeron --record --clients 4`. In all trials it stays below its bound of memory (`--memory`; 0 asks for none, as
+for a build with the address sanitizer), and `quit` ends it with status 0.
 - publications: so many of them, one after another, each with a session id of its own: a setup frame, one to five data frames, and
-  then nothing. A client awaits that `positions` shows all of it, and replays it. A second client stops its recording meanwhile, and
-  purges the oldest stopped one. Each publication has one image and one recording, and no place of an image runs out. The memory that
-  is in use does not rise from the first thousand publications to the last.
+  then nothing. A client sends `start` for it, since the server begins few recordings in a short time by itself. It awaits that
+  `positions` shows all of it, and replays it. A second client stops its recording meanwhile, and purges the oldest stopped one. Each
+  publication has one image and one recording, and no place of an image runs out. The memory that is in use does not rise from the
+  first thousand publications to the last.
 - clients: so many of them open replays of a recording that goes on, poll, and die in the middle of the reply: by a reset, or by a
   close without reading. One to three die at once. After each time the next client is served. At the end no replay is left open, all
   that was sent is recorded, and the recording can be purged.
-- silence: so many of them, 60 at once, send a few frames each and then nothing, next to one that goes on as fast as it can. Each is
-  recorded whole, is stopped at its end ten seconds later, and its place and seat are free for the next ones.
+- silence: so many of them send a few frames each and then nothing, next to one that goes on as fast as it can, and that so many times.
+  Nobody sends `start`. Each is recorded whole by one recording, which is stopped at its end ten seconds later. So places and seats are
+  free for the next time.
 """
 import queue
 import random
@@ -28,7 +30,7 @@ from pathlib import Path
 
 from days import Recording, listed
 from flow_control import FaultySender, wait_for
-from serving import MOST_MEMORY, PATIENCE, STREAM, Client, Faults, Publication, Server, recorded_position, served
+from serving import MOST_MEMORY, PATIENCE, STREAM, Client, Faults, Publication, Server, recorded_position, served, start_line
 from lib.tool import MOST_AT_ONCE, STREAM_ID, Fault, conclude, expect, file_system, program, run_trials, trial_words
 
 CLIENTS = 4  # at a time
@@ -40,7 +42,7 @@ WAITING = 16  # publications that may wait to be stopped: less than the 64 place
 LENGTHS = 40, 200, 1_408  # of frames
 ENOUGH = 6_000  # frames of MTU: a poll's reply is longer than what the system keeps of it
 TIMESTAMP = 2_000
-SILENT = 60  # publications at once: with the one that goes on less than the 64 places of images
+SILENT = 60  # publications at most: with the one that goes on less than the 64 places of images, and than 64 recordings that begin
 MOST_SILENCE = 15.0  # seconds after which each is stopped: ten, and what the look at all of them takes
 
 
@@ -141,6 +143,7 @@ def publications(tool: Path, chance: random.Random, count: int, most_memory: int
         client, keeper = server.client(), Keeper(server.client())
         keeper.start()
         for recording, session_id in enumerate(session_ids):
+            expect("a start", one(client, start_line(session_id)), f"started {recording} {recording}")
             sent = publish(server, chance, session_id, client, recording)
             expect_whole(client, recording, sent)
             keeper.put((recording, sent.position))
@@ -208,9 +211,9 @@ def clients(tool: Path, chance: random.Random, count: int, most_memory: int) -> 
             expect("the next client", server.ask("list 0 0"), ["end 0"])
             recorded_position(client, 0)  # a client that asks nothing for a minute is disconnected
         sender.finish(client, 0)
+        expect("stop", one(client, f"stop 0 {TIMESTAMP}"), f"stopped {sender.position}")
         wait_for("the end of all replays", lambda: is_none_open(client))
         expect_whole(client, 0, sender.publication)
-        expect("stop", one(client, f"stop 0 {TIMESTAMP}"), f"stopped {sender.position}")
         expect("purge", one(client, "purge 0"), "purged-recording")
         client.close()
         most, took = server.memory(), time.monotonic() - begun
@@ -241,28 +244,27 @@ def awaited(client: Client, session_ids: list[int]) -> dict[int, Recording]:
     return recordings_of(client, session_ids)
 
 
-def fall_silent(server: Server, chance: random.Random, client: Client, session_ids: list[int]) -> float:
-    """So many publications at once, which say nothing more once all of each is recorded. Gives how long the last one's recording took
-    to be stopped then."""
-    senders = {session_id: FaultySender(server.address(), session_id, Faults(chance, 0.0)) for session_id in session_ids}
+def fall_silent(chance: random.Random, client: Client, senders: dict[int, FaultySender]) -> float:
+    """Publications that send a few frames more, and say nothing more once all of each is recorded. Gives how long the last one's
+    recording took to be stopped then."""
     for sender in senders.values():
         for _ in range(chance.randint(1, 5)):
             sender.message(chance.choice(LENGTHS))
+    session_ids = list(senders)
     for session_id, recording in awaited(client, session_ids).items():
         senders[session_id].finish(client, recording.number)
-        senders[session_id].socket.close()
     silent = time.monotonic()
     wait_for("a stop of each", lambda: all(recording.stop >= 0 for recording in recordings_of(client, session_ids).values()), 0.1)
     took = time.monotonic() - silent
     for session_id, recording in recordings_of(client, session_ids).items():
         expect(f"the end of session {session_id}", recording.stop, senders[session_id].position)
         expect_whole(client, recording.number, senders[session_id].publication)
-        expect("purge", one(client, f"purge {recording.number}"), "purged-recording")
     return took
 
 
-def silence(tool: Path, chance: random.Random, count: int, most_memory: int) -> None:
-    """Publications that fall silent, nearly as many at once as there are places, next to one that goes on as fast as it can."""
+def silence(tool: Path, chance: random.Random, count: int, times: int, most_memory: int) -> None:
+    """So many publications that fall silent so many times, nearly as many as there are places, next to one that goes on as fast as it
+    can."""
     begun, longest, enough, fault = time.monotonic(), 0.0, threading.Event(), []
     first, *session_ids = chance.sample(range(-(2**31), 2**31), count + 1)
     with recorder(tool, most_memory) as (server, _):
@@ -271,9 +273,12 @@ def silence(tool: Path, chance: random.Random, count: int, most_memory: int) -> 
         recording = awaited(client, [first])[first].number
         speaker = threading.Thread(target=go_on_beside, args=(loud, enough, fault), daemon=True)
         speaker.start()
-        while session_ids and not fault:
-            wave, session_ids = session_ids[:SILENT], session_ids[SILENT:]
-            longest = max(longest, fall_silent(server, chance, client, wave))
+        senders = {session_id: FaultySender(server.address(), session_id, Faults(chance, 0.0)) for session_id in session_ids}
+        for _ in range(times):
+            if not fault:
+                longest = max(longest, fall_silent(chance, client, senders))
+        for recording_of_one in recordings_of(client, session_ids).values():
+            expect("purge", one(client, f"purge {recording_of_one.number}"), "purged-recording")
         enough.set()
         speaker.join(PATIENCE)
         if fault or speaker.is_alive():
@@ -285,16 +290,18 @@ def silence(tool: Path, chance: random.Random, count: int, most_memory: int) -> 
         frames, took = len(loud.publication.frames), time.monotonic() - begun
     if longest > MOST_SILENCE:
         raise Fault(f"a recording was stopped {longest:.1f} s after its publication had fallen silent")
-    expect("images", server.counts()["images"], count + 1)
-    print(f"{count} publications that fall silent, {SILENT} at once, next to one of {frames} frames, {took:.0f} s: each is recorded, stopped "
-          f"at its end at most {longest:.1f} s later, and purged", flush=True)
+    if server.counts()["images"] < times * count + 1:
+        raise Fault(f"{server.counts()['images']} images of {count} publications that came {times} times")
+    print(f"{count} publications that fall silent {times} times, next to one of {frames} frames, {took:.0f} s: each is recorded by one "
+          f"recording, stopped at its end at most {longest:.1f} s later, and purged", flush=True)
 
 
 def main() -> int:
     words = trial_words(__doc__)
     words.add_argument("--publications", type=int, default=4_000, help="4,000, the default, take about 100 seconds")
     words.add_argument("--clients", type=int, default=200)
-    words.add_argument("--silent", type=int, default=180, help="publications that fall silent; 180, the default, take about 50 seconds")
+    words.add_argument("--silent", type=int, choices=range(1, SILENT + 1), default=SILENT, metavar="N", help="publications that fall silent")
+    words.add_argument("--times", type=int, default=3, help="how often they do; 3, the default, take about 50 seconds")
     words.add_argument("--memory", type=int, default=MOST_MEMORY, help="megabytes of the server at most; 0 asks for none")
     words.add_argument("--only", help="one trial alone, by its name")
     asked = words.parse_args()
@@ -303,7 +310,7 @@ def main() -> int:
     all_trials = {
         "publications": lambda: publications(tool, chance, asked.publications, asked.memory),
         "clients": lambda: clients(tool, chance, asked.clients, asked.memory),
-        "silence": lambda: silence(tool, chance, asked.silent, asked.memory),
+        "silence": lambda: silence(tool, chance, asked.silent, asked.times, asked.memory),
     }
     run_trials(all_trials, asked.only)
     return 0

@@ -6,8 +6,9 @@ from pathlib import Path
 from lib.tool import Fault
 
 NAME = r"aeron_recorder_[a-z_]+"
-LABELS = r'\{(?:recording|image)="\d+",stream="-?\d+",session="-?\d+"\}'
-LINE = re.compile(rf"({NAME})({LABELS})? (-?\d+(?:\.\d{{6}})?)")
+RECORDER = r'\{recorder="[A-Za-z0-9_.-]{1,64}"'
+OWN = r'(?:,(?:recording|image)="\d+",stream="-?\d+",session="-?\d+"|,version="[^"]+",catalogue="\d+")'
+LINE = re.compile(rf"({NAME}){RECORDER}({OWN})?\}} (-?\d+(?:\.\d{{6}})?)")
 HEAD = re.compile(rf"# HELP ({NAME}) (.+)\n# TYPE \1 (counter|gauge|summary)")
 EVERY = 0.25  # seconds between two looks
 

@@ -12,10 +12,13 @@ CALM = re.compile(
     r"|image \d+ feeds session \d+"
     r"|image \d+ is sent no status messages: its MTU of \d+ bytes is longer than its window"
     rf"|image \d+ has left: {COUNTS}"
+    r"|image \d+ resumes stream -?\d+, session id -?\d+ at \d+, where recording \d+ stands: \d+ bytes before its setup frame are asked for"
+    r"|image \d+ has what was missing: \d+ bytes up to \d+, after \d+ milliseconds"
     r"|the last of 64 images is used: .*"
     r"|all 64 places of images are taken: .*"
     r"|a connection ended and left replays open:(?: \d+)+"
     r"|\d+ of the \d+ entries of the history are used, \d+ are left"
+    r"|the history was made short: \d+ entries became \d+"
     rf"|ended: connections \d+, datagrams \d+, images \d+, {COUNTS}"
 )
 

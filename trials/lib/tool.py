@@ -25,6 +25,7 @@ STREAM_ID, SESSION_ID, INITIAL_TERM, MTU, TIMESTAMP = 1_001, 7, 42, 1_408, 1_000
 CALM = re.compile(
     r"a new archive was made, as the folder had none"
     r"|\d+ of the \d+ entries of the history are used, \d+ are left"
+    r"|the history was made short: \d+ entries became \d+"
     r"|the history is full: .*"
     r"|recordings \d+, frames \d+, bytes \d+, damaged 0, not read 0"
 )
@@ -225,8 +226,8 @@ def replayed(tool: Path, folder: Path, recording: int, begin: int, frames: int) 
 class Session:
     """A `run <folder>` that is asked line by line."""
 
-    def __init__(self, program: Path, folder: str | Path) -> None:
-        words = [program, "run", folder]
+    def __init__(self, program: Path, folder: str | Path, *options: str) -> None:
+        words = [program, "run", folder, *options]
         told = subprocess.DEVNULL
         self.process = subprocess.Popen(words, stdin=subprocess.PIPE, stdout=subprocess.PIPE, stderr=told, text=True)
 

@@ -1,5 +1,5 @@
 -- Commands whose archive is not opened.
-use Rattle.std.proofs.Common.{◌≡◌, refl, subst, sym, ℕ, List}
+use Rattle.std.proofs.Common.{◌≡◌, inl, refl, subst, sym, ℕ, ℤ, List}
 use Rattle.std.specs.Prelude.{IfErr, Option, Result, Err}
 use Rattle.disk_core.specs.Life.{Life}
 use Rattle.archive_commands.specs.declared.commands.CommandFault.{CommandFault}
@@ -15,9 +15,9 @@ module _ {D X : Type 0} (life : D → Life) (old : Life) (contents : Option (Lis
       by (Refused refusal) none = (none, refl)
       by (Cut end) none = absurd none
 
-  pub unverified : IsUnopenedBy old (life fault.disk) fault.why → IfErr result (λ f. FailsToVerify old (life f.disk) f.why contents contents)
-  unverified none = subst (λ (r : Result X (CommandFault D)). IfErr r (λ f. FailsToVerify old (life f.disk) f.why contents contents)) (sym is) (by fault.why none)
+  pub unverified : (asked : Option ℤ) → IsUnopenedBy old (life fault.disk) fault.why → IfErr result (λ f. FailsToVerify asked old (life f.disk) f.why contents contents)
+  unverified asked none = subst (λ (r : Result X (CommandFault D)). IfErr r (λ f. FailsToVerify asked old (life f.disk) f.why contents contents)) (sym is) (by fault.why none)
     where
-      by : (why : Stop) → IsUnopenedBy old (life fault.disk) why → FailsToVerify old (life fault.disk) why contents contents
-      by (Refused refusal) none = (none, refl)
+      by : (why : Stop) → IsUnopenedBy old (life fault.disk) why → FailsToVerify asked old (life fault.disk) why contents contents
+      by (Refused refusal) none = (inl none, refl)
       by (Cut end) none = absurd none

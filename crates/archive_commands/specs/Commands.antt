@@ -1,6 +1,8 @@
 -- What `create`, `compact`, `list` and `verify` do over a disk and a writer, whatever the disk holds and does: docs/CONTROL.md, "The program".
-use Rattle.std.specs.Prelude.{◌≡◌, ℕ, ℤ, pos, List, Option}
+use Rattle.std.specs.Prelude.{◌≡◌, ◌⊎◌, ℕ, ℤ, pos, List, Option}
 use Rattle.std.specs.Io.KnownBytes.{Appends}
+use Rattle.frame_core.specs.declared.refusal.Refusal.{Refusal}
+use Rattle.frame_core.specs.declared.refusal.Refusal.TheVariants.{UnknownRecording}
 use Rattle.disk_core.specs.Life.{Life}
 use Rattle.archive_model.specs.declared.reply.Reply.TheVariants.{Recordings}
 use Rattle.control_core.specs.Decisions.{listed}
@@ -16,7 +18,7 @@ use Rattle.tool_core.specs.declared.fault.EarlyEnd.TheVariants as ends
 use Rattle.archive_commands.specs.declared.reports.Verdict.{Verdict}
 use Rattle.tool_core.specs.Answering.{FailsToAnswer}
 use Rattle.tool_core.specs.Archives.{HasCompacted, HasNotCompacted}
-use Rattle.archive_commands.specs.Reports.{AnswersEach, HasReported, HasReportedFirst, ids_in}
+use Rattle.archive_commands.specs.Reports.{AnswersEach, KnowsAsked, HasReported, HasReportedFirst, LacksAsked, ids_asked}
 
 -- the reply of the line `list 0 1024` over an engine's recordings
 abbrev pub list_text : EngineState → List ℕ
@@ -79,23 +81,35 @@ FailsToList old new (Cut end) contents written = HasListedSome old new contents 
 
 -- ---- verify
 
--- the archive was opened, each of its recordings verified, and the answers are written
-pub record HasVerified (old new : Life) (contents written : Option (List ℕ)) (verdict : Verdict) : Type 0 where
-  pub opened : EngineState
-  pub opens : IsOpenedBy old opened
-  pub last : EngineState
-  pub reported : HasReported AnswersEach (ids_in opened.desk) opened last contents written verdict
-  pub left : new ≡ last.life
+module _ (asked : Option ℤ) where
+  -- the archive was opened, each of its recordings verified, or the one that was asked for, and the answers are written
+  pub record HasVerified (old new : Life) (contents written : Option (List ℕ)) (verdict : Verdict) : Type 0 where
+    pub opened : EngineState
+    pub opens : IsOpenedBy old opened
+    pub there : KnowsAsked asked opened.desk
+    pub last : EngineState
+    pub reported : HasReported AnswersEach (ids_asked asked opened.desk) opened last contents written verdict
+    pub left : new ≡ last.life
 
--- the first of them were
-pub record HasVerifiedFirst (old new : Life) (contents written : Option (List ℕ)) (end : EarlyEnd) : Type 0 where
-  pub opened : EngineState
-  pub opens : IsOpenedBy old opened
-  pub last : EngineState
-  pub reported : HasReportedFirst AnswersEach (ids_in opened.desk) opened last contents written end
-  pub left : new ≡ last.life
+  -- the first of them were
+  pub record HasVerifiedFirst (old new : Life) (contents written : Option (List ℕ)) (end : EarlyEnd) : Type 0 where
+    pub opened : EngineState
+    pub opens : IsOpenedBy old opened
+    pub there : KnowsAsked asked opened.desk
+    pub last : EngineState
+    pub reported : HasReportedFirst AnswersEach (ids_asked asked opened.desk) opened last contents written end
+    pub left : new ≡ last.life
 
--- it was not opened, and nothing is written; or it was
-abbrev pub FailsToVerify : Life → Life → Stop → Option (List ℕ) → Option (List ℕ) → Type 0
-FailsToVerify old new (Refused refusal) contents written = IsUnopenedBy old new (Refused refusal) × (written ≡ contents)
-FailsToVerify old new (Cut end) contents written = HasVerifiedFirst old new contents written end
+  -- the archive was opened, and lacks the recording that was asked for
+  pub record OpensWithout (old new : Life) (refusal : Refusal) : Type 0 where
+    pub opened : EngineState
+    pub opens : IsOpenedBy old opened
+    pub absent : LacksAsked asked opened.desk
+    pub left : new ≡ opened.life
+    pub is : refusal ≡ UnknownRecording
+
+  -- it was not opened, or lacks the recording, and nothing is written; or its recordings were verified
+  abbrev pub FailsToVerify : Life → Life → Stop → Option (List ℕ) → Option (List ℕ) → Type 0
+  FailsToVerify old new (Refused refusal) contents written =
+      (IsUnopenedBy old new (Refused refusal) ⊎ OpensWithout old new refusal) × (written ≡ contents)
+  FailsToVerify old new (Cut end) contents written = HasVerifiedFirst old new contents written end

@@ -1,5 +1,5 @@
 -- What `verify` tells of an archive: docs/CONTROL.md, "The program".
-use Rattle.std.specs.Prelude.{◌≡◌, ◌⊎◌, ℕ, ℤ, Bool, IfSome, IsTrue, List, [], ◌∷◌, length, map, take, Option, Result, MatchResult, is_ok, if◌then◌else◌}
+use Rattle.std.specs.Prelude.{◌≡◌, ◌⊎◌, ℕ, ℤ, Bool, IfSome, IsSome, IsTrue, List, [], ◌∷◌, length, map, take, Option, None, Some, Result, MatchResult, is_ok, if◌then◌else◌}
 use Rattle.std.specs.List.{AllZip, flat_map, list_all}
 use Rattle.std.specs.Io.KnownBytes.{Appends}
 use Rattle.frame_core.specs.declared.refusal.Refusal.{Refusal}
@@ -37,6 +37,21 @@ IsWrittenBefore ends.Write contents written text = Unit {0}
 -- the ids of a desk's recordings, as they rise
 abbrev pub ids_in : DeskState → List ℤ
 ids_in desk = map id_of desk.register.recordings
+
+-- the ids that are asked for: that of one recording alone, or those of a desk's recordings
+abbrev pub ids_asked : Option ℤ → DeskState → List ℤ
+ids_asked None desk = ids_in desk
+ids_asked (Some id) desk = id ∷ []
+
+-- if one recording alone is asked for, the desk has it
+abbrev pub KnowsAsked : Option ℤ → DeskState → Type 0
+KnowsAsked None desk = Unit {0}
+KnowsAsked (Some id) desk = IsSome (registration_in desk.register id)
+
+-- one recording alone is asked for, and the desk doesn't have it
+abbrev pub LacksAsked : Option ℤ → DeskState → Type 0
+LacksAsked None desk = ⊥
+LacksAsked (Some id) desk = registration_in desk.register id ≡ None
 
 -- what the verifying of a recording may answer, and leave
 abbrev pub Verification : Type 0 → Type 1

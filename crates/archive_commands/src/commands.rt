@@ -8,7 +8,7 @@ ghost use Rattle.archive_commands.specs.declared.commands.Stop.TheVariants.{Refu
 ghost use Rattle.archive_commands.specs.Commands.{FailsToCompact, FailsToCreate, FailsToList, FailsToVerify, HasListed, HasVerified, IsCreated, IsOpenedBy, IsUnopenedBy};
 ghost use Rattle.tool_core.specs.Archives.{HasCompacted};
 
-use crate::reports::{Verdict, list_recordings, verify_recordings};
+use crate::reports::{Verdict, has_asked, list_recordings, verify_recordings};
 use disk_core::Disk;
 use engine_core::{Engine, OpenRefusal};
 use frame_core::Refusal;
@@ -127,24 +127,31 @@ pub fn list_archive<W: Write, D: Disk, O: Observer>(
     }
 }
 
-/// Opens the archive of a disk, and verifies its recordings as `verify_recordings`. The disk comes back, with the verdict. An
-/// observer gets whether it was opened, and each answer.
+/// Opens the archive of a disk, and verifies its recordings, or the one of an id, as `verify_recordings`. The disk comes
+/// back, with the verdict. An observer gets whether it was opened, and each answer.
 ///
-/// Refused as `Engine::open` refuses, and then nothing is written; cut as `verify_recordings`. docs/CONTROL.md, "The
-/// program".
+/// Refused as `Engine::open` refuses, and by `UnknownRecording` if the archive lacks that recording, and then nothing is
+/// written; cut as `verify_recordings`. docs/CONTROL.md, "The program".
 pub fn verify_archive<W: Write, D: Disk, O: Observer>(
     alloc: Global,
     disk: D,
+    asked: Option<i64>,
     writer: &mut W,
     observer: &mut O,
 ) -> Result<(D, Verdict), CommandFault<D>>
-    ensures verified { IfOk result (λ found. HasVerified (D.life disk) (D.life found.0)
+    ensures verified { IfOk result (λ found. HasVerified asked (D.life disk) (D.life found.0)
         (W.contents writer.old) (W.contents writer.new) found.1) }
-    ensures fault { IfErr result (λ fault. FailsToVerify (D.life disk) (D.life fault.disk) fault.why
+    ensures fault { IfErr result (λ fault. FailsToVerify asked (D.life disk) (D.life fault.disk) fault.why
         (W.contents writer.old) (W.contents writer.new)) }
 {
     let mut engine = opened(alloc, disk, observer)?;
-    let outcome = verify_recordings(alloc, &mut engine, writer, observer);
+    if !has_asked(engine.desk(), asked) {
+        return Err(CommandFault {
+            why: Stop::Refused(Refusal::UnknownRecording),
+            disk: engine.into_disk(),
+        });
+    }
+    let outcome = verify_recordings(alloc, &mut engine, asked, writer, observer);
     let disk = engine.into_disk();
     match outcome {
         Ok(verdict) => Ok((disk, verdict)),

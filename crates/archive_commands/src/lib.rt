@@ -17,6 +17,6 @@ pub use commands::{
 };
 pub use frames::{Listing, list_frames};
 pub use progress::{ListedFiles, Measure, OpeningProgress, Progress};
-pub use reports::{Verdict, Verifiable, list_recordings, verify_recordings};
+pub use reports::{Verdict, Verifiable, has_asked, list_recordings, verify_recordings};
 pub use screen::{Screen, Stage};
 pub use watched::{Viewer, Watched};

@@ -1,6 +1,6 @@
 //! What `list` and `verify` report of an archive. docs/CONTROL.md, "The program".
 
-ghost use Rattle.std.specs.Prelude.{◌≡◌, pos, IfErr, IfOk, OnOk, map};
+ghost use Rattle.std.specs.Prelude.{◌≡◌, pos, IfErr, IfOk, MatchBool, OnOk, map};
 ghost use Rattle.std.specs.Io.KnownBytes.{Appends};
 ghost use Rattle.archive_model.specs.declared.reply.Reply.TheVariants.{Recordings};
 ghost use Rattle.archive_model.specs.Register.{id_of};
@@ -9,7 +9,7 @@ ghost use Rattle.control_lines.specs.ReplyText.{reply_text};
 ghost use Rattle.tool_core.specs.Answering.{FailsToAnswer};
 ghost use Rattle.control_core.specs.Desk.{DeskState};
 ghost use Rattle.engine_core.specs.Seen.{seen};
-ghost use Rattle.archive_commands.specs.Reports.{HasReported, HasReportedFirst, HasReportedOne, InTurn, InTurnAndOne, Verification, ids_in, verifies_by};
+ghost use Rattle.archive_commands.specs.Reports.{KnowsAsked, HasReported, HasReportedFirst, HasReportedOne, InTurn, InTurnAndOne, LacksAsked, Verification, ids_asked, verifies_by};
 
 use archive_model::{Registration, Reply};
 use control_core::{Decision, Desk, Event, Request, decide};
@@ -85,23 +85,34 @@ impl<D: Disk> Verifiable for Engine<D> {
     }
 }
 
-/// Verification each recording, by rising id, and writes the answer to each as a script does: `verified <frames>`, or the
-/// line of its refusal. An observer gets each answer before it is written.
+/// Whether a desk has the recording that is asked for alone, if one is.
+pub fn has_asked(desk: &Desk, asked: Option<i64>) -> bool
+    ensures { MatchBool result (KnowsAsked asked desk.now.state) (LacksAsked asked desk.now.state) }
+{
+    match asked {
+        None => true,
+        Some(id) => desk.recording(&id).is_some(),
+    }
+}
+
+/// Verification each recording, by rising id, or that of one id alone, and writes the answer to each as a script does:
+/// `verified <frames>`, or the line of its refusal. An observer gets each answer before it is written.
 ///
 /// `Memory` where there is none for the list of ids or for a reply's text, and `Write` where the writer fails: what was
 /// written before stays written. Costs what each recorded frame costs. docs/CONTROL.md, "The program".
 pub fn verify_recordings<W: Write, A: Verifiable, O: Observer>(
     alloc: Global,
     archive: &mut A,
+    asked: Option<i64>,
     writer: &mut W,
     observer: &mut O,
 ) -> Result<Verdict, EarlyEnd>
-    ensures whole { IfOk result (HasReported (InTurn A.verifies) (ids_in (A.desk_of archive.old)) archive.old archive.new
-        (W.contents writer.old) (W.contents writer.new)) }
-    ensures early { IfErr result (HasReportedFirst (InTurnAndOne A.verifies) (ids_in (A.desk_of archive.old)) archive.old
+    ensures whole { IfOk result (HasReported (InTurn A.verifies) (ids_asked asked (A.desk_of archive.old)) archive.old
         archive.new (W.contents writer.old) (W.contents writer.new)) }
+    ensures early { IfErr result (HasReportedFirst (InTurnAndOne A.verifies) (ids_asked asked (A.desk_of archive.old))
+        archive.old archive.new (W.contents writer.old) (W.contents writer.new)) }
 {
-    let ids = ids_of(alloc, archive.desk().recordings())?;
+    let ids = ids_of(alloc, archive.desk(), asked)?;
     let mut is_whole = true;
     for id in ids.as_slice() {
         let is_verified = report(alloc, archive, id, writer, observer)?;
@@ -114,8 +125,18 @@ pub fn verify_recordings<W: Write, A: Verifiable, O: Observer>(
     })
 }
 
+/// The ids that are asked for: that of one recording alone, or those of a desk's recordings.
+fn ids_of(alloc: Global, desk: &Desk, asked: Option<i64>) -> Result<Vec<i64>, AllocError>
+    ensures { IfOk result (λ ids. ids.items ≡ ids_asked asked desk.now.state) }
+{
+    match asked {
+        Some(id) => Vec::from_slice(alloc, &[id]),
+        None => all_ids(alloc, desk.recordings()),
+    }
+}
+
 /// The ids of recordings.
-fn ids_of(alloc: Global, recordings: &[Registration]) -> Result<Vec<i64>, AllocError>
+fn all_ids(alloc: Global, recordings: &[Registration]) -> Result<Vec<i64>, AllocError>
     ensures { IfOk result (λ ids. ids.items ≡ map id_of recordings.now) }
 {
     recordings

@@ -1,5 +1,5 @@
 -- The files of an archive that is only looked at, asked one after another, and what is written of them.
-use Rattle.std.proofs.Common.{◌≡◌, ◌∙◌, ◌+◌, ◌<◌, ◌++◌, sym, subst, inr, ℕ, IsTrue, List, [], ◌∷◌, get_or, length, map, take, Option}
+use Rattle.std.proofs.Common.{◌≡◌, ◌∙◌, ◌+◌, ◌<◌, ◌++◌, sym, subst, inr, ℕ, ℤ, IsTrue, List, [], ◌∷◌, get_or, length, map, take, Option}
 use Rattle.std.specs.Prelude.{IsSome}
 use Rattle.std.proofs.Math.Path.{fun_ext}
 use Rattle.std.proofs.lemmas.List.{map-append, take_more}
@@ -10,6 +10,7 @@ use Rattle.disk_core.specs.Life.{Life}
 use Rattle.segment_store.specs.Stale.{AreStale}
 use Rattle.archive_model.specs.Register.{RegisterState}
 use Rattle.engine_core.specs.Moves.{registered_keeps}
+use Rattle.archive_commands.specs.Reports.{KnowsAsked}
 use Rattle.archive_commands.specs.declared.commands.Stop.{Stop}
 use Rattle.archive_commands.specs.declared.commands.Stop.TheVariants as stops
 use Rattle.archive_view.specs.declared.view.ArchiveView.{ArchiveView}
@@ -70,11 +71,12 @@ module _ {D : Type 0} (life : D → Life) where
     seen = λ obeys. shown.seen (look.inside.obeyed obeys);
   })
 
-  pub described_on : (old back : Life) (seen last : ArchiveView D) (form : Form) (contents written : Option (List ℕ)) → ShowsDesk old (inner life seen) (desk_of seen) → IsLookedOn life seen last → DescribesView life seen last form contents written
-      → back ≡ inner life last → HasDescribed old back form contents written
-  described_on old back seen last form contents written shown look did is = record {
+  pub described_on : (asked : Option ℤ) (old back : Life) (seen last : ArchiveView D) (form : Form) (contents written : Option (List ℕ)) → ShowsDesk old (inner life seen) (desk_of seen) → KnowsAsked asked (desk_of seen) → IsLookedOn life seen last → DescribesView life asked seen last form contents written
+      → back ≡ inner life last → HasDescribed asked old back form contents written
+  described_on asked old back seen last form contents written shown there look did is = record {
     desk = desk_of seen;
     shown = shown_on old back seen last shown look is;
+    there = there;
     files = did.files;
     stale = did.stale;
     seen = λ obeys. shows_same (reads old.now) (reads (inner life seen).now) (desk_of seen).register did.files did.stale (same_image old (inner life seen) shown.inside)
@@ -82,9 +84,9 @@ module _ {D : Type 0} (life : D → Life) where
     told = did.told;
   }
 
-  pub undescribed_on : (old : Life) (disk : D) (seen last : ArchiveView D) (why : Stop) (contents written : Option (List ℕ)) → ShowsDesk old (inner life seen) (desk_of seen) → IsLookedOn life seen last → FailsView why contents written
-      → life disk ≡ inner life last → FailsToDescribe life old disk why contents written
-  undescribed_on old disk seen last (stops.Refused refusal) contents written shown look fails is =
+  pub undescribed_on : (asked : Option ℤ) (old : Life) (disk : D) (seen last : ArchiveView D) (why : Stop) (contents written : Option (List ℕ)) → ShowsDesk old (inner life seen) (desk_of seen) → IsLookedOn life seen last → FailsView why contents written
+      → life disk ≡ inner life last → FailsToDescribe life asked old disk why contents written
+  undescribed_on asked old disk seen last (stops.Refused refusal) contents written shown look fails is =
       (inr (record { desk = desk_of seen; shown = shown_on old (life disk) seen last shown look is; unasked = fails.0 }), fails.1)
-  undescribed_on old disk seen last (stops.Cut end) contents written shown look fails is =
+  undescribed_on asked old disk seen last (stops.Cut end) contents written shown look fails is =
       record { desk = desk_of seen; shown = shown_on old (life disk) seen last shown look is; told = fails }

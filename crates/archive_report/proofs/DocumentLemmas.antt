@@ -1,18 +1,19 @@
 -- A document has no float.
 use Rattle.std.proofs.Common.{◌≡◌, ℕ, ℤ, pos, negsuc, Bool, true, false, List, [], ◌∷◌, Ordering, Less, Equal, Greater, nat_cmp, refl, true≢false}
-use Rattle.std.specs.Prelude.{◌||◌}
+use Rattle.std.specs.Prelude.{◌||◌, if◌then◌else◌}
 use Rattle.std.specs.Cmp.Lexicographic.{slice_cmp}
 use Rattle.std.specs.Ordering.{match_ordering}
 use Rattle.disk_core.specs.declared.file_id.FileId.{FileId}
 use Rattle.archive_model.specs.declared.registration.Registration.{Registration}
 use Rattle.archive_model.specs.Register.{RegisterState}
 use Rattle.control_core.specs.Desk.{DeskState}
-use Rattle.serde_json.specs.Data.{Data, Members, member, no_members, put}
+use Rattle.serde_json.specs.Data.{Data, Members, member, no_members, null, put}
 use Rattle.serde_json.specs.Find.{is_float, of_integer}
 use Rattle.serde_json.specs.Written.{has_float, members_have_float}
 use Rattle.archive_report.specs.declared.summary.Measured.{Measured}
 use Rattle.archive_report.specs.declared.summary.Total.{Total}
-use Rattle.archive_report.specs.DocumentData.{archive_in_total, date_data, document_data, each_of, recording_data, stale_data, unknown_data, with_dates, with_extent, with_lengths, with_stream}
+use Rattle.archive_report.specs.Dates.{is_before_start}
+use Rattle.archive_report.specs.DocumentData.{archive_in_total, date_data, document_data, each_of, recording_data, stale_data, stop_data, unknown_data, with_dates, with_extent, with_lengths, with_stream}
 
 halves : (a b : Bool) → (a || b) ≡ false → (a ≡ false) × (b ≡ false)
 halves false b e = (refl, e)
@@ -41,13 +42,20 @@ date : (time : ℤ) → has_float (date_data time) ≡ false
 date (pos ms) = refl
 date (negsuc n) = refl
 
+chosen : (b : Bool) (d : Data) → has_float d ≡ false → has_float (if b then null else d) ≡ false
+chosen true d none = refl
+chosen false d none = none
+
+stop : (start time : ℤ) → has_float (stop_data start time) ≡ false
+stop start time = chosen (is_before_start start time) (date_data time) (date time)
+
 stream : (r : Registration) (ms : Members) → members_have_float ms ≡ false → members_have_float (with_stream r ms) ≡ false
 unfolding with_stream
 stream r ms none = search (put_one, integer, none) depth 8
 
 dates : (r : Registration) (ms : Members) → members_have_float ms ≡ false → members_have_float (with_dates r ms) ≡ false
 unfolding with_dates
-dates r ms none = search (put_one, integer, date, none)
+dates r ms none = search (put_one, integer, date, stop, none)
 
 extent : (t : Total) (r : Registration) (ms : Members) → members_have_float ms ≡ false → members_have_float (with_extent t r ms) ≡ false
 unfolding with_extent
@@ -57,7 +65,7 @@ lengths : (r : Registration) (ms : Members) → members_have_float ms ≡ false 
 unfolding with_lengths
 lengths r ms none = search (put_one, integer, none)
 
-recording : (files : List Measured) (r : Registration) → has_float (recording_data files r) ≡ false
+pub recording : (files : List Measured) (r : Registration) → has_float (recording_data files r) ≡ false
 unfolding recording_data
 recording files r = lengths r _ (extent _ r _ (dates r _ (stream r _ refl)))
 

@@ -27,7 +27,7 @@ use Rattle.archive_view.specs.Verified.{HasVerified as WasVerified, VerifyAnswer
 use Rattle.archive_view.specs.Viewed.{desk_of, read_of}
 use Rattle.archive_view.specs.Asked.{Answers, HasAsked}
 use Rattle.archive_report.specs.Describing.{IsLookedOn}
-use Rattle.archive_report.specs.Viewing.{FailsToList, IsUnviewedBy, inner}
+use Rattle.archive_report.specs.Viewing.{FailsToList, IsUnseenBy, IsUnviewedBy, inner}
 use Rattle.archive_report.specs.declared.verify.Seen.{Seen}
 use Rattle.archive_report.specs.Verifying.{FailsToVerify, TellEach, Tells, VerifiesEach, seen_verifies}
 
@@ -128,10 +128,10 @@ module _ {D X : Type 0} (life : D → Life) (old : Life) (contents : Option (Lis
       by (stops.Refused refusal) none = (none, refl)
       by (stops.Cut end) none = absurd none
 
-  pub unverified : IsUnviewedBy life old fault.disk fault.why → IfErr result (λ f. FailsToVerify life old f.disk f.why contents contents)
-  unverified none = subst (λ (r : Result X (CommandFault D)). IfErr r (λ f. FailsToVerify life old f.disk f.why contents contents)) (sym is) (by fault.why none)
+  pub unverified : (asked : Option ℤ) → IsUnseenBy life asked old fault.disk fault.why → IfErr result (λ f. FailsToVerify life asked old f.disk f.why contents contents)
+  unverified asked none = subst (λ (r : Result X (CommandFault D)). IfErr r (λ f. FailsToVerify life asked old f.disk f.why contents contents)) (sym is) (by fault.why none)
     where
-      by : (why : Stop) → IsUnviewedBy life old fault.disk why → FailsToVerify life old fault.disk why contents contents
+      by : (why : Stop) → IsUnseenBy life asked old fault.disk why → FailsToVerify life asked old fault.disk why contents contents
       by (stops.Refused refusal) none = (none, refl)
       by (stops.Cut end) none = absurd none
 

@@ -1,5 +1,6 @@
 -- Times as dates in UTC: docs/CONTROL.md, "A page for people".
-use Rattle.std.specs.Prelude.{◌++◌, ◌+◌, ◌*◌, ◌/◌, ◌%◌, Bool, int_le, ℕ, zero, suc, ℤ, pos, negsuc, List, [], ◌∷◌, None, codes, decimal, if◌then◌else◌, nat_le, nat_lt}
+use Rattle.std.specs.Prelude.{◌++◌, ◌+◌, ◌*◌, ◌/◌, ◌%◌, ◌&&◌, Bool, int_le, int_lt, ℕ, zero, suc, ℤ, pos, negsuc, List, [], ◌∷◌, None, codes, decimal, if◌then◌else◌, nat_le, nat_lt}
+use Rattle.std.specs.Fmt.{signed_decimal}
 use Rattle.jiff_core.specs.Calendar.{days_in_month}
 use Rattle.jiff_fmt.specs.Text.{fraction_part, pad2, pad4}
 
@@ -40,6 +41,14 @@ last_dated = 253402207200999
 abbrev pub date_text : ℤ → List ℕ
 date_text (negsuc n) = codes "-"
 date_text (pos ms) = if nat_le ms last_dated then instant_text ms else decimal ms
+
+-- a stop that is known is earlier than its start
+abbrev pub is_before_start : ℤ → ℤ → Bool
+is_before_start start stop = int_le (pos 0) stop && int_lt stop start
+
+-- when it was stopped that began then: of a time before its start the number, and that
+abbrev pub stop_text : ℤ → ℤ → List ℕ
+stop_text start stop = if is_before_start start stop then signed_decimal stop ++ codes " (before its start)" else date_text stop
 
 -- a time that is known is not negative
 abbrev pub is_known : ℤ → Bool

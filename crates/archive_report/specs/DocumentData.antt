@@ -1,6 +1,6 @@
 -- The JSON text on an archive: docs/CONTROL.md, "A page for people". The members of an object stand in the order of their keys,
 -- where `put` puts each at its place.
-use Rattle.std.specs.Prelude.{◌++◌, ℕ, ℤ, pos, negsuc, List, codes, map}
+use Rattle.std.specs.Prelude.{◌++◌, ℕ, ℤ, pos, negsuc, List, codes, map, if◌then◌else◌}
 use Rattle.disk_core.specs.declared.file_id.FileId.{FileId}
 use Rattle.disk_core.specs.FileNames.{name_of}
 use Rattle.archive_model.specs.declared.registration.Registration.{Registration}
@@ -13,7 +13,7 @@ use Rattle.serde_json.specs.View.{items_of}
 use Rattle.serde_json.specs.Written.{compact_text}
 use Rattle.archive_report.specs.declared.summary.Measured.{Measured}
 use Rattle.archive_report.specs.declared.summary.Total.{Total}
-use Rattle.archive_report.specs.Dates.{date_text}
+use Rattle.archive_report.specs.Dates.{date_text, is_before_start}
 use Rattle.archive_report.specs.Files.{is_segment, is_segment_of, recorded_bytes, staleness_of, total_of, why_text}
 
 -- a list of data
@@ -24,6 +24,10 @@ each_of f xs = array (items_of (map f xs))
 abbrev pub date_data : ℤ → Data
 date_data (pos ms) = string (date_text (pos ms))
 date_data (negsuc n) = null
+
+-- the date of a stop, null also if that is before its start
+abbrev pub stop_data : ℤ → ℤ → Data
+stop_data start stop = if is_before_start start stop then null else date_data stop
 
 -- which recording, and what stream it is of
 unfoldable pub with_stream : Registration → Members → Members
@@ -40,7 +44,7 @@ unfoldable pub with_dates : Registration → Members → Members
 with_dates r ms =
     put (codes "stop_timestamp") (number (of_integer r.descriptor.stop_timestamp)) (
     put (codes "start_timestamp") (number (of_integer r.descriptor.start_timestamp)) (
-    put (codes "stopped") (date_data r.descriptor.stop_timestamp) (
+    put (codes "stopped") (stop_data r.descriptor.start_timestamp r.descriptor.stop_timestamp) (
     put (codes "started") (date_data r.descriptor.start_timestamp) ms)))
 
 -- how much of it is recorded, in how many files, and how many bytes these have
@@ -63,6 +67,10 @@ with_lengths r ms =
 -- a recording, of an archive with these files
 unfoldable pub recording_data : List Measured → Registration → Data
 recording_data files r = object (with_lengths r (with_extent (total_of (is_segment_of r.descriptor.recording) files) r (with_dates r (with_stream r no_members))))
+
+-- the text of a recording alone, and a line's end after it
+unfoldable pub recording_text : List Measured → Registration → List ℕ
+recording_text files r = compact_text (recording_data files r) ++ codes "\n"
 
 -- a file that a sweep would remove, and why
 unfoldable pub stale_data : RegisterState → FileId → Data

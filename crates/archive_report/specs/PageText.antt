@@ -10,7 +10,7 @@ use Rattle.catalogue_log.specs.Bank.{number_of}
 use Rattle.control_core.specs.Desk.{DeskState}
 use Rattle.archive_report.specs.declared.summary.Measured.{Measured}
 use Rattle.archive_report.specs.declared.summary.Total.{Total}
-use Rattle.archive_report.specs.Dates.{date_text}
+use Rattle.archive_report.specs.Dates.{date_text, stop_text}
 use Rattle.archive_report.specs.Files.{is_segment, is_segment_of, recorded_bytes, staleness_of, total_of, why_text}
 
 -- whether it is recorded, in a word
@@ -35,7 +35,7 @@ sender_line text = codes "  source     " ++ (text ++ codes "\n")
 unfoldable pub date_lines : Registration → List ℕ
 date_lines r =
     codes "  started    " ++ (date_text r.descriptor.start_timestamp ++ (codes "\n"
-    ++ (codes "  stopped    " ++ (date_text r.descriptor.stop_timestamp ++ codes "\n"))))
+    ++ (codes "  stopped    " ++ (stop_text r.descriptor.start_timestamp r.descriptor.stop_timestamp ++ codes "\n"))))
 
 -- how much of it is recorded
 unfoldable pub position_lines : Registration → List ℕ

@@ -15,12 +15,12 @@ use Rattle.archive_commands.specs.declared.commands.Stop.{Stop}
 use Rattle.archive_commands.specs.declared.commands.Stop.TheVariants.{Refused, Cut}
 use Rattle.tool_core.specs.declared.fault.EarlyEnd.{EarlyEnd}
 use Rattle.archive_commands.specs.declared.reports.Verdict.{Verdict}
-use Rattle.archive_commands.specs.Reports.{HasReported, HasReportedFirst, Verification, ids_in}
+use Rattle.archive_commands.specs.Reports.{KnowsAsked, HasReported, HasReportedFirst, Verification, ids_asked}
 use Rattle.archive_view.specs.declared.view.ArchiveView.{ArchiveView}
 use Rattle.archive_view.specs.ReadOnly.{IsOnlyRead}
 use Rattle.archive_view.specs.Viewed.{desk_of}
 use Rattle.archive_report.specs.declared.verify.Seen.{Seen}
-use Rattle.archive_report.specs.Viewing.{IsUnviewedBy, ShowsDesk, inner}
+use Rattle.archive_report.specs.Viewing.{IsUnseenBy, ShowsDesk, inner}
 
 -- what is answered of a recording on such an image
 abbrev pub Tells : DiskImage → Option Registration → Result Reply Refusal → Type 0
@@ -51,22 +51,25 @@ module _ {D : Type 0} (life : D → Life) where
   abbrev pub seen_verifies : Verification (Seen D)
   seen_verifies old id outcome new = VerifiesEach old.view new.view (id ∷ []) (outcome ∷ [])
 
-  -- the archive was seen, and then each of its recordings; behind that the disk was at most read
+module _ {D : Type 0} (life : D → Life) (asked : Option ℤ) where
+  -- the archive was seen, and then each of its recordings, or the one that was asked for; behind that the disk was at most read
   pub record HasVerified (old new : Life) (contents written : Option (List ℕ)) (verdict : Verdict) : Type 0 where
     pub seen : ArchiveView D
     pub shown : ShowsDesk old (inner life seen) (desk_of seen)
+    pub there : KnowsAsked asked (desk_of seen)
     pub last : ArchiveView D
-    pub verified : HasReported VerifiesEach (ids_in (desk_of seen)) seen last contents written verdict
+    pub verified : HasReported (VerifiesEach life) (ids_asked asked (desk_of seen)) seen last contents written verdict
     pub left : IsOnlyRead (inner life last) new
 
   pub record HasVerifiedFirst (old new : Life) (contents written : Option (List ℕ)) (end : EarlyEnd) : Type 0 where
     pub seen : ArchiveView D
     pub shown : ShowsDesk old (inner life seen) (desk_of seen)
+    pub there : KnowsAsked asked (desk_of seen)
     pub last : ArchiveView D
-    pub verified : HasReportedFirst VerifiesEach (ids_in (desk_of seen)) seen last contents written end
+    pub verified : HasReportedFirst (VerifiesEach life) (ids_asked asked (desk_of seen)) seen last contents written end
     pub left : IsOnlyRead (inner life last) new
 
-  -- it was not seen, and nothing is written; or it was
+  -- it was not seen, or lacks the recording that was asked for, and nothing is written; or it was
   abbrev pub FailsToVerify : Life → D → Stop → Option (List ℕ) → Option (List ℕ) → Type 0
-  FailsToVerify old disk (Refused refusal) contents written = IsUnviewedBy life old disk (Refused refusal) × (written ≡ contents)
+  FailsToVerify old disk (Refused refusal) contents written = IsUnseenBy life asked old disk (Refused refusal) × (written ≡ contents)
   FailsToVerify old disk (Cut end) contents written = HasVerifiedFirst old (life disk) contents written end

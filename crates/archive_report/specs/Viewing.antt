@@ -1,6 +1,8 @@
 -- What `list` and `verify` tell of an archive that is only looked at: docs/CONTROL.md, "Looking without a change".
-use Rattle.std.specs.Prelude.{◌≡◌, ℕ, pos, IsTrue, List, Option}
+use Rattle.std.specs.Prelude.{◌≡◌, ◌⊎◌, ℕ, ℤ, pos, IsTrue, List, Option}
 use Rattle.std.specs.Io.KnownBytes.{Appends}
+use Rattle.frame_core.specs.declared.refusal.Refusal.{Refusal}
+use Rattle.frame_core.specs.declared.refusal.Refusal.TheVariants.{UnknownRecording}
 use Rattle.disk_core.specs.DiskImage.{reads}
 use Rattle.disk_core.specs.Life.{Life}
 use Rattle.archive_model.specs.declared.reply.Reply.TheVariants.{Recordings}
@@ -11,6 +13,7 @@ use Rattle.control_core.specs.Desk.{DeskState}
 use Rattle.control_lines.specs.ReplyText.{reply_text}
 use Rattle.archive_commands.specs.declared.commands.Stop.{Stop}
 use Rattle.archive_commands.specs.declared.commands.Stop.TheVariants.{Refused, Cut}
+use Rattle.archive_commands.specs.Reports.{LacksAsked}
 use Rattle.tool_core.specs.declared.fault.EarlyEnd.{EarlyEnd}
 use Rattle.tool_core.specs.Answering.{FailsToAnswer}
 use Rattle.archive_view.specs.declared.view.ArchiveView.{ArchiveView}
@@ -28,6 +31,13 @@ pub record ShowsDesk (old new : Life) (desk : DeskState) : Type 0 where
 pub record RefusesDesk (old new : Life) (Why : Type 0) : Type 0 where
   pub inside : IsOnlyRead old new
   pub refused : IsTrue new.obeys → Why
+
+-- the desk was seen, and lacks the recording that was asked for alone
+pub record ShowsWithout (asked : Option ℤ) (old new : Life) (refusal : Refusal) : Type 0 where
+  pub desk : DeskState
+  pub shown : ShowsDesk old new desk
+  pub absent : LacksAsked asked desk
+  pub is : refusal ≡ UnknownRecording
 
 -- the desk was seen, and this is written of its recordings
 pub record HasListed (old new : Life) (contents written : Option (List ℕ)) : Type 0 where
@@ -52,6 +62,11 @@ module _ {D : Type 0} (life : D → Life) where
   abbrev pub IsUnviewedBy : Life → D → Stop → Type 0
   IsUnviewedBy old disk (Refused refusal) = RefusesDesk old (life disk) (RefusesCatalogue (reads old.now) refusal)
   IsUnviewedBy old disk (Cut end) = ⊥
+
+  -- it was not seen, or lacks the recording that was asked for alone
+  abbrev pub IsUnseenBy : Option ℤ → Life → D → Stop → Type 0
+  IsUnseenBy asked old disk (Refused refusal) = IsUnviewedBy old disk (Refused refusal) ⊎ ShowsWithout asked old (life disk) refusal
+  IsUnseenBy asked old disk (Cut end) = ⊥
 
   -- it was not seen, and nothing is written; or it was
   abbrev pub FailsToList : Life → D → Stop → Option (List ℕ) → Option (List ℕ) → Type 0

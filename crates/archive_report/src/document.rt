@@ -2,9 +2,9 @@
 
 ghost use Rattle.std.specs.Prelude.{◌≡◌, IfOk, OnOk, string_bytes};
 ghost use Rattle.serde_json.specs.View.{members_view, view};
-ghost use Rattle.archive_report.specs.DocumentData.{archive_in_total, date_data, document_data, document_text, each_of, recording_data, stale_data, unknown_data, with_dates, with_extent, with_lengths, with_stream};
+ghost use Rattle.archive_report.specs.DocumentData.{archive_in_total, date_data, document_data, document_text, each_of, recording_data, recording_text, stale_data, stop_data, unknown_data, with_dates, with_extent, with_lengths, with_stream};
 
-use crate::dates::Date;
+use crate::dates::{Date, StopDate};
 use crate::summary::{Staleness, Summary, Total, recorded_bytes};
 use crate::version::version_number;
 use archive_model::Registration;
@@ -74,6 +74,21 @@ fn recordings_of(
     Ok(Value::Array(found))
 }
 
+/// The text of a recording alone, with a line end behind it. An error where there is no memory for it.
+#[tactic(auto, unfolding(crate::specs::DocumentData::recording_text))]
+pub(crate) fn recording_document(
+    alloc: Global,
+    known: &Registration,
+    summary: &Summary,
+) -> Result<String, AllocError>
+    ensures { IfOk result (λ text. string_bytes text ≡ recording_text summary.now.files.items known.now) }
+{
+    let recording = recording_of(alloc, known, summary)?;
+    let mut text = recording.to_string(alloc)?;
+    text.push_str("\n")?;
+    Ok(text)
+}
+
 /// A recording.
 #[tactic(auto, unfolding(crate::specs::DocumentData::recording_data))]
 fn recording_of(alloc: Global, known: &Registration, summary: &Summary) -> Result<Value, AllocError>
@@ -134,7 +149,7 @@ fn put_dates(
         members,
         alloc,
         "stopped",
-        date_of(alloc, Date(found.stop_timestamp))?,
+        stop_of(alloc, found.start_timestamp, found.stop_timestamp)?,
     )?;
     put(
         members,
@@ -213,6 +228,16 @@ fn put_lengths(
         Value::from(found.segment_length),
     )?;
     put(members, alloc, "mtu", Value::from(found.mtu))
+}
+
+/// The date of a stop, null where it is not known, or before its start.
+fn stop_of(alloc: Global, start: i64, stop: i64) -> Result<Value, AllocError>
+    ensures { IfOk result (λ found. view found ≡ stop_data start stop) }
+{
+    if (StopDate { start, stop }).is_before_start() {
+        return Ok(Value::Null);
+    }
+    date_of(alloc, Date(stop))
 }
 
 /// A date, null where it is not known.

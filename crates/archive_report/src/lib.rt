@@ -14,6 +14,7 @@ mod verify;
 mod version;
 mod viewing;
 
+pub use dates::Moment;
 pub use describe::describe_archive;
 pub use export::export_view;
 pub use form::Form;

@@ -4,7 +4,7 @@ ghost use Rattle.std.specs.Prelude.{◌≡◌, ◌++◌, IfOk, OnOk, string_byte
 ghost use Rattle.std.specs.List.{flat_map};
 ghost use Rattle.archive_report.specs.PageText.{count_line, date_lines, disk_line, history_lines, length_lines, page_text, position_lines, recording_lines, sender_line, stale_line, state_text, stream_lines, unknown_line};
 
-use crate::dates::Date;
+use crate::dates::{Date, StopDate};
 use crate::summary::{Staleness, Summary, Total, recorded_bytes};
 use crate::version::version_number;
 use archive_model::Registration;
@@ -26,6 +26,19 @@ pub(crate) fn page_of(alloc: Global, desk: &Desk, summary: &Summary) -> Result<S
     add_history(desk, &mut page)?;
     add_stale(desk, summary.stale.as_slice(), &mut page)?;
     add_unknown(summary.unknown.as_slice(), &mut page)?;
+    Ok(page)
+}
+
+/// The part of the page on a recording alone. An error where there is no memory for it.
+pub(crate) fn recording_page(
+    alloc: Global,
+    known: &Registration,
+    summary: &Summary,
+) -> Result<String, AllocError>
+    ensures { IfOk result (λ page. string_bytes page ≡ recording_lines summary.now.files.items known.now) }
+{
+    let mut page = String::new(alloc);
+    add_recording(known, summary, &mut page)?;
     Ok(page)
 }
 
@@ -106,7 +119,10 @@ fn add_dates(known: &Registration, page: &mut String) -> Result<(), AllocError>
     ensures { OnOk result (string_bytes page.new ≡ string_bytes page.old ++ date_lines known.now) }
 {
     let started = Date(known.descriptor.start_timestamp);
-    let stopped = Date(known.descriptor.stop_timestamp);
+    let stopped = StopDate {
+        start: known.descriptor.start_timestamp,
+        stop: known.descriptor.stop_timestamp,
+    };
     writeln!(page, "  started    {started}\n  stopped    {stopped}")
 }
 

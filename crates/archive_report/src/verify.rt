@@ -5,7 +5,7 @@ ghost use Rattle.archive_view.specs.ReadOnly.{IsOnlyRead};
 ghost use Rattle.archive_report.specs.Viewing.{inner};
 ghost use Rattle.archive_report.specs.Verifying.{FailsToVerify, HasVerified, desk_seen, seen_verifies};
 
-use crate::viewing::viewed;
+use crate::viewing::viewed_with;
 use archive_commands::{CommandFault, Stop, Verdict, Verifiable, verify_recordings};
 use archive_model::Reply;
 use archive_view::ArchiveView;
@@ -47,28 +47,30 @@ impl<D: Disk> Verifiable for Seen<D> {
     }
 }
 
-/// Verifies each recording of the archive of a disk as it stands, by rising id, and writes the answer to each:
-/// `verified <frames>`, or the line of its refusal. The disk is only read, and comes back with what was found. An observer
-/// gets whether the archive is there, and each answer before it is written.
+/// Verifies each recording of the archive of a disk as it stands, by rising id, or the one of an id alone, and writes the
+/// answer to each: `verified <frames>`, or the line of its refusal. The disk is only read, and comes back with what was found.
+/// An observer gets whether the archive is there, and each answer before it is written.
 ///
-/// Refused as `ArchiveView::open` refuses, and then nothing is written; cut by `Memory` where there is none for the list of
+/// Refused as `ArchiveView::open` refuses, and by `UnknownRecording` if the archive lacks that recording, and then nothing is
+/// written; cut by `Memory` where there is none for the list of
 /// ids or for a reply's text, and by `Write` where the writer fails: what was written before stays written. Costs what each
 /// recorded frame costs. docs/CONTROL.md, "Looking without a change".
 pub fn verify_view<W: Write, D: Disk, O: Observer>(
     alloc: Global,
     disk: D,
+    asked: Option<i64>,
     writer: &mut W,
     observer: &mut O,
 ) -> Result<(D, Finding), CommandFault<D>>
-    ensures verified { IfOk result (λ found. HasVerified D.life (D.life disk) (D.life found.0)
+    ensures verified { IfOk result (λ found. HasVerified D.life asked (D.life disk) (D.life found.0)
         (W.contents writer.old) (W.contents writer.new) found.1.verdict) }
     ensures moving { IfOk result (λ found. IsTrue found.1.is_moving → found.1.verdict ≡ Verdict.Refused) }
-    ensures fault { IfErr result (λ fault. FailsToVerify D.life (D.life disk) fault.disk fault.why
+    ensures fault { IfErr result (λ fault. FailsToVerify D.life asked (D.life disk) fault.disk fault.why
         (W.contents writer.old) (W.contents writer.new)) }
 {
-    let view = viewed(alloc, disk, observer)?;
+    let view = viewed_with(alloc, disk, asked, observer)?;
     let mut seen = Seen { view };
-    let outcome = verify_recordings(alloc, &mut seen, writer, observer);
+    let outcome = verify_recordings(alloc, &mut seen, asked, writer, observer);
     let mut view = seen.view;
     let is_moving = is_moving(alloc, &mut view, &outcome);
     let disk = view.into_disk().into_disk();

@@ -1,12 +1,15 @@
 //! An archive that is looked at. docs/CONTROL.md, "Looking without a change".
 
 ghost use Rattle.std.specs.Prelude.{IfErr, IfOk};
-ghost use Rattle.archive_report.specs.Viewing.{IsUnviewedBy, IsViewedBy};
+ghost use Rattle.archive_commands.specs.Reports.{KnowsAsked};
+ghost use Rattle.archive_view.specs.Viewed.{desk_of};
+ghost use Rattle.archive_report.specs.Viewing.{IsUnseenBy, IsUnviewedBy, IsViewedBy};
 
-use archive_commands::{CommandFault, Stop};
+use archive_commands::{CommandFault, Stop, has_asked};
 use archive_view::{ArchiveView, ReadOnly};
 use disk_core::Disk;
 use engine_core::OpenRefusal;
+use frame_core::Refusal;
 use std::alloc::Global;
 use tool_core::{Beginning, Observer};
 
@@ -33,4 +36,26 @@ pub(crate) fn viewed<D: Disk, O: Observer>(
             })
         }
     }
+}
+
+/// The archive of a disk as it stands, if it has the recording that is asked for alone; else why it cannot be looked at, or
+/// `UnknownRecording`, and the disk. The disk is only read.
+pub(crate) fn viewed_with<D: Disk, O: Observer>(
+    alloc: Global,
+    disk: D,
+    asked: Option<i64>,
+    observer: &mut O,
+) -> Result<ArchiveView<D>, CommandFault<D>>
+    ensures viewed { IfOk result (λ view. IsViewedBy D.life (D.life disk) view) }
+    ensures there { IfOk result (λ view. KnowsAsked asked (desk_of view)) }
+    ensures refused { IfErr result (λ fault. IsUnseenBy D.life asked (D.life disk) fault.disk fault.why) }
+{
+    let view = viewed(alloc, disk, observer)?;
+    if has_asked(view.desk(), asked) {
+        return Ok(view);
+    }
+    Err(CommandFault {
+        why: Stop::Refused(Refusal::UnknownRecording),
+        disk: view.into_disk().into_disk(),
+    })
 }

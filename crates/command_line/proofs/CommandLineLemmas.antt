@@ -16,7 +16,7 @@ use Rattle.command_line.specs.declared.command.ToolCommand.{ToolCommand}
 use Rattle.command_line.specs.declared.asking.AskWords.{AskWords}
 use Rattle.command_line.specs.declared.serving.ServeWords.{ServeWords}
 use Rattle.command_line.specs.declared.command.ToolCommand.TheVariants.{Create, Run, Serve, Compact, List as AskList, Verify, Describe, Export, Frames, Ask}
-use Rattle.command_line.specs.CommandLine.{HasWords, IsAsked, IsAsking, IsCommand, IsExporting, IsFlag, IsHeld, IsMet, IsNumber, IsNumberIf, IsSigned, IsSignedIf, IsPlain, IsPlainWord, IsServing, IsWordsFault, command_word, tool_app, words_of}
+use Rattle.command_line.specs.CommandLine.{HasWords, IsAsked, IsAsking, IsCommand, IsDescribing, IsExporting, IsFlag, IsHeld, IsMet, IsNumber, IsNumberIf, IsSigned, IsSignedIf, IsPlain, IsPlainWord, IsServing, IsVerifying, IsWordsFault, command_word, tool_app, words_of}
 
 -- what a getter gave is what the rows hold
 pub text_given : (f : Found) (id : Text) (given got : Option (Bor Text)) → option_map (λ s. s.now) given ≡ first_value f id → given ≡ got → first_of id (rows_of f) ≡ option_map (λ s. s.now) got
@@ -105,12 +105,12 @@ is_there id rows text is none = let bad = sym none ∙ is in cc
 
 holds_by : (rows : List Row) (command : ToolCommand) → HasWords rows command → HoldsBy (command_word command) rows
 holds_by rows (Create folder history) words = (is_there (codes "folder") rows folder.now words.0, history, words.1)
-holds_by rows (Run folder) words = tt
+holds_by rows (Run folder checkpoints wait) words = tt
 holds_by rows (Serve words) serving = (words, serving)
-holds_by rows (Compact folder) words = is_there (codes "folder") rows folder.now words
-holds_by rows (AskList folder read_only) words = is_there (codes "folder") rows folder.now words.0
-holds_by rows (Verify folder read_only) words = is_there (codes "folder") rows folder.now words.0
-holds_by rows (Describe folder json) words = is_there (codes "folder") rows folder.now words.0
+holds_by rows (Compact folder wait) words = is_there (codes "folder") rows folder.now words.0
+holds_by rows (AskList folder read_only wait) words = is_there (codes "folder") rows folder.now words.0
+holds_by rows (Verify folder recording read_only wait) words = is_there (codes "folder") rows folder.now words.folder_is
+holds_by rows (Describe folder recording json) words = is_there (codes "folder") rows folder.now words.folder_is
 holds_by rows (Export folder recording from to pcap) words = (folder.now, recording, from, to, pcap.now, words)
 holds_by rows (Frames file) words = is_there (codes "file") rows file.now words
 holds_by rows (Ask words) asking = (words, asking)
@@ -130,6 +130,11 @@ pub no_export : (rows : List Row)
     → ((folder : Text) (recording : ℤ) (from to : Option ℤ) (pcap : Text) → IsExporting rows folder recording from to pcap → ⊥)
     → (command : ToolCommand) → IsAsked (codes "export") rows command → ⊥
 no_export rows none = lacks_words (codes "export") (codes "export") rows refl (λ (folder, recording, from, to, pcap, words). none folder recording from to pcap words)
+
+-- if the rows hold no folder, they hold no command `verify` or `describe`
+pub no_folder : (word : Text) (rows : List Row) → (HoldsBy word rows ≡ (first_of (codes "folder") rows ≢ None)) → first_of (codes "folder") rows ≡ None
+    → (command : ToolCommand) → IsAsked word rows command → ⊥
+no_folder word rows is none = lacks_words word word rows refl (λ holds. subst (λ (T : Type 0). T) is holds none)
 
 -- if the words of `ask` lack one, the rows hold no command of its name
 pub no_ask : (name : Text) (rows : List Row) → name ≡ codes "ask" → ((words : AskWords) → IsAsking rows words → ⊥) → (command : ToolCommand) → IsAsked name rows command → ⊥
@@ -183,9 +188,9 @@ run_alone_taken : (program : Text) → fault_of tool_app (program ∷ codes "run
 unfolding clap_on_literals
 run_alone_taken program = refl
 
-run_alone_met : (program : Text) → IsMet (subcommand_of tool_app (program ∷ codes "run" ∷ [])) (Run None)
+run_alone_met : (program : Text) → IsMet (subcommand_of tool_app (program ∷ codes "run" ∷ [])) (Run None false None)
 unfolding clap_on_literals
-run_alone_met program = record { named = refl; words = refl }
+run_alone_met program = record { named = refl; words = (refl, not_set, tt) }
 
 usual_history : IsNumber 1048576 (codes "1048576")
 usual_history = (search rules, refl, omega arith)
@@ -205,40 +210,46 @@ unfolding clap_on_literals
 run_taken program [] plain = absurd plain
 run_taken program (byte ∷ bytes) plain = simp (ne_eqb byte 45 plain) refl
 
-run_met : (program text : Text) (folder : Bor Text) → IsPlainWord text → folder.now ≡ text → IsMet (subcommand_of tool_app (program ∷ codes "run" ∷ text ∷ [])) (Run (Some folder))
+run_met : (program text : Text) (folder : Bor Text) → IsPlainWord text → folder.now ≡ text → IsMet (subcommand_of tool_app (program ∷ codes "run" ∷ text ∷ [])) (Run (Some folder) false None)
 unfolding clap_on_literals
 run_met program [] folder plain is = absurd plain
-run_met program (byte ∷ bytes) folder plain is = simp (ne_eqb byte 45 plain) (record { named = refl; words = ap (λ t. Some t) (sym is) })
+run_met program (byte ∷ bytes) folder plain is = simp (ne_eqb byte 45 plain) (record { named = refl; words = (ap (λ t. Some t) (sym is), not_set, tt) })
 
 list_taken : (program text : Text) → IsPlainWord text → fault_of tool_app (program ∷ codes "list" ∷ text ∷ []) ≡ []
 unfolding clap_on_literals
 list_taken program [] plain = absurd plain
 list_taken program (byte ∷ bytes) plain = simp (ne_eqb byte 45 plain) refl
 
-list_met : (program text : Text) (folder : Bor Text) → IsPlainWord text → folder.now ≡ text → IsMet (subcommand_of tool_app (program ∷ codes "list" ∷ text ∷ [])) (AskList folder false)
+list_met : (program text : Text) (folder : Bor Text) → IsPlainWord text → folder.now ≡ text → IsMet (subcommand_of tool_app (program ∷ codes "list" ∷ text ∷ [])) (AskList folder false None)
 unfolding clap_on_literals
 list_met program [] folder plain is = absurd plain
-list_met program (byte ∷ bytes) folder plain is = simp (ne_eqb byte 45 plain) (record { named = refl; words = (ap (λ t. Some t) (sym is), not_set) })
+list_met program (byte ∷ bytes) folder plain is = simp (ne_eqb byte 45 plain) (record { named = refl; words = (ap (λ t. Some t) (sym is), not_set, tt) })
 
 verify_taken : (program text : Text) → IsPlainWord text → fault_of tool_app (program ∷ codes "verify" ∷ text ∷ []) ≡ []
 unfolding clap_on_literals
 verify_taken program [] plain = absurd plain
 verify_taken program (byte ∷ bytes) plain = simp (ne_eqb byte 45 plain) refl
 
-verify_met : (program text : Text) (folder : Bor Text) → IsPlainWord text → folder.now ≡ text → IsMet (subcommand_of tool_app (program ∷ codes "verify" ∷ text ∷ [])) (Verify folder false)
+verify_met : (program text : Text) (folder : Bor Text) → IsPlainWord text → folder.now ≡ text → IsMet (subcommand_of tool_app (program ∷ codes "verify" ∷ text ∷ [])) (Verify folder None false None)
 unfolding clap_on_literals
 verify_met program [] folder plain is = absurd plain
-verify_met program (byte ∷ bytes) folder plain is = simp (ne_eqb byte 45 plain) (record { named = refl; words = (ap (λ t. Some t) (sym is), not_set) })
+verify_met program (byte ∷ bytes) folder plain is = simp (ne_eqb byte 45 plain) (record {
+  named = refl;
+  words = record { folder_is = ap (λ t. Some t) (sym is); recording_is = tt; read_only_is = not_set; wait_is = tt };
+})
 
 describe_taken : (program text : Text) → IsPlainWord text → fault_of tool_app (program ∷ codes "describe" ∷ text ∷ []) ≡ []
 unfolding clap_on_literals
 describe_taken program [] plain = absurd plain
 describe_taken program (byte ∷ bytes) plain = simp (ne_eqb byte 45 plain) refl
 
-describe_met : (program text : Text) (folder : Bor Text) → IsPlainWord text → folder.now ≡ text → IsMet (subcommand_of tool_app (program ∷ codes "describe" ∷ text ∷ [])) (Describe folder false)
+describe_met : (program text : Text) (folder : Bor Text) → IsPlainWord text → folder.now ≡ text → IsMet (subcommand_of tool_app (program ∷ codes "describe" ∷ text ∷ [])) (Describe folder None false)
 unfolding clap_on_literals
 describe_met program [] folder plain is = absurd plain
-describe_met program (byte ∷ bytes) folder plain is = simp (ne_eqb byte 45 plain) (record { named = refl; words = (ap (λ t. Some t) (sym is), not_set) })
+describe_met program (byte ∷ bytes) folder plain is = simp (ne_eqb byte 45 plain) (record {
+  named = refl;
+  words = record { folder_is = ap (λ t. Some t) (sym is); recording_is = tt; json_is = not_set };
+})
 
 frames_taken : (program text : Text) → IsPlainWord text → fault_of tool_app (program ∷ codes "frames" ∷ text ∷ []) ≡ []
 unfolding clap_on_literals
@@ -255,24 +266,27 @@ unfolding clap_on_literals
 compact_taken program [] plain = absurd plain
 compact_taken program (byte ∷ bytes) plain = simp (ne_eqb byte 45 plain) refl
 
-compact_met : (program text : Text) (folder : Bor Text) → IsPlainWord text → folder.now ≡ text → IsMet (subcommand_of tool_app (program ∷ codes "compact" ∷ text ∷ [])) (Compact folder)
+compact_met : (program text : Text) (folder : Bor Text) → IsPlainWord text → folder.now ≡ text → IsMet (subcommand_of tool_app (program ∷ codes "compact" ∷ text ∷ [])) (Compact folder None)
 unfolding clap_on_literals
 compact_met program [] folder plain is = absurd plain
-compact_met program (byte ∷ bytes) folder plain is = simp (ne_eqb byte 45 plain) (record { named = refl; words = ap (λ t. Some t) (sym is) })
+compact_met program (byte ∷ bytes) folder plain is = simp (ne_eqb byte 45 plain) (record { named = refl; words = (ap (λ t. Some t) (sym is), tt) })
 
 held_alone : (program : Text) (command : ToolCommand) → IsPlain command → IsHeld (program ∷ words_of command) command
 held_alone program (Create folder history) plain = subst (λ n. IsHeld (program ∷ codes "create" ∷ folder.now ∷ []) (Create folder n)) (sym plain.1)
     (record { taken = create_taken program folder.now plain.0; met = create_met program folder.now folder plain.0 refl })
-held_alone program (Run None) plain = record { taken = run_alone_taken program; met = run_alone_met program }
-held_alone program (Run (Some folder)) plain = record { taken = run_taken program folder.now plain; met = run_met program folder.now folder plain refl }
+held_alone program (Run None checkpoints wait) (flag, waits) = rw (flag, waits)
+    (record { taken = run_alone_taken program; met = run_alone_met program })
+held_alone program (Run (Some folder) checkpoints wait) (plain, flag, waits) = rw (flag, waits)
+    (record { taken = run_taken program folder.now plain; met = run_met program folder.now folder plain refl })
 held_alone program (Serve words) plain = absurd plain
-held_alone program (Compact folder) plain = record { taken = compact_taken program folder.now plain; met = compact_met program folder.now folder plain refl }
-held_alone program (AskList folder read_only) plain = subst (λ set. IsHeld (program ∷ codes "list" ∷ folder.now ∷ []) (AskList folder set)) (sym plain.1)
-    (record { taken = list_taken program folder.now plain.0; met = list_met program folder.now folder plain.0 refl })
-held_alone program (Verify folder read_only) plain = subst (λ set. IsHeld (program ∷ codes "verify" ∷ folder.now ∷ []) (Verify folder set)) (sym plain.1)
-    (record { taken = verify_taken program folder.now plain.0; met = verify_met program folder.now folder plain.0 refl })
-held_alone program (Describe folder json) plain = subst (λ set. IsHeld (program ∷ codes "describe" ∷ folder.now ∷ []) (Describe folder set)) (sym plain.1)
-    (record { taken = describe_taken program folder.now plain.0; met = describe_met program folder.now folder plain.0 refl })
+held_alone program (Compact folder wait) plain = subst (λ w. IsHeld (program ∷ codes "compact" ∷ folder.now ∷ []) (Compact folder w)) (sym plain.1)
+    (record { taken = compact_taken program folder.now plain.0; met = compact_met program folder.now folder plain.0 refl })
+held_alone program (AskList folder read_only wait) (plain, flag, waits) = rw (flag, waits)
+    (record { taken = list_taken program folder.now plain; met = list_met program folder.now folder plain refl })
+held_alone program (Verify folder recording read_only wait) (plain, one, flag, waits) = rw (one, flag, waits)
+    (record { taken = verify_taken program folder.now plain; met = verify_met program folder.now folder plain refl })
+held_alone program (Describe folder recording json) (plain, one, flag) = rw (one, flag)
+    (record { taken = describe_taken program folder.now plain; met = describe_met program folder.now folder plain refl })
 held_alone program (Export folder recording from to pcap) plain = absurd plain
 held_alone program (Ask words) plain = absurd plain
 held_alone program (Frames file) plain = record { taken = frames_taken program file.now plain; met = frames_met program file.now file plain refl }

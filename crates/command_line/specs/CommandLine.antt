@@ -84,6 +84,18 @@ clients_option = record (new_rule (codes "clients")) {
   parser = Some (parser.Signed (pos 1) (pos 64));
 }
 
+-- `--consumers`, a port, which may be given, from 1 to 65535
+abbrev pub consumers_option : Rule
+consumers_option = record (new_rule (codes "consumers")) {
+  long = Some (codes "consumers");
+  value_names = 1;
+  parser = Some (parser.Signed (pos 1) (pos 65535));
+}
+
+-- `--consumers-on`, an address, which may be given
+abbrev pub consumers_address_option : Rule
+consumers_address_option = record (new_rule (codes "consumers-on")) { long = Some (codes "consumers-on"); value_names = 1 }
+
 -- `--record`, an i32, which may be given several times
 abbrev pub stream_option : Rule
 stream_option = record (new_rule (codes "record")) {
@@ -105,6 +117,10 @@ segment_option = record (new_rule (codes "segment-length")) {
 abbrev pub metrics_option : Rule
 metrics_option = record (new_rule (codes "metrics")) { long = Some (codes "metrics"); value_names = 1 }
 
+-- `--name`, a text, which may be given
+abbrev pub name_option : Rule
+name_option = record (new_rule (codes "name")) { long = Some (codes "name"); value_names = 1 }
+
 -- a command of one word, which has to be given
 abbrev pub word_app : Text → Text → App
 word_app name id = with_rule (new_app name) (required_word id)
@@ -112,18 +128,42 @@ word_app name id = with_rule (new_app name) (required_word id)
 abbrev pub create_app : App
 create_app = with_rule (word_app (codes "create") (codes "folder")) history_option
 
--- a command of a folder, with a flag
-abbrev pub flag_app : Text → Text → App
-flag_app name flag = with_rule (word_app name (codes "folder")) (flag_option flag)
+-- `--wait` of a command that opens a folder, from 1 to 86400, which may be given
+abbrev pub waiting_option : Rule
+waiting_option = record (new_rule (codes "wait")) {
+  long = Some (codes "wait");
+  value_names = 1;
+  parser = Some (parser.Signed (pos 1) (pos 86400));
+}
+
+-- the id of a recording, which may be given as a word
+abbrev pub recording_word : Rule
+recording_word = record (new_rule (codes "recording")) { parser = Some (parser.Signed (pos 0) (pos 9223372036854775807)) }
 
 abbrev pub run_app : App
-run_app = with_rule (new_app (codes "run")) (new_rule (codes "folder"))
+run_app = with_rule (with_rule (with_rule (new_app (codes "run")) (new_rule (codes "folder"))) (flag_option (codes "checkpoints"))) waiting_option
+
+abbrev pub compact_app : App
+compact_app = with_rule (word_app (codes "compact") (codes "folder")) waiting_option
+
+abbrev pub list_app : App
+list_app = with_rule (with_rule (word_app (codes "list") (codes "folder")) (flag_option (codes "read-only"))) waiting_option
+
+abbrev pub verify_app : App
+verify_app = with_rule (with_rule (with_rule (word_app (codes "verify") (codes "folder")) recording_word) (flag_option (codes "read-only"))) waiting_option
+
+abbrev pub describe_app : App
+describe_app = with_rule (with_rule (word_app (codes "describe") (codes "folder")) recording_word) (flag_option (codes "json"))
 
 abbrev pub serve_app : App
-serve_app = with_rule (with_rule (with_rule (with_rule (with_rule (with_rule (with_rule (with_rule (with_rule (with_rule (with_rule (with_rule (with_rule (word_app (codes "serve") (codes "folder"))
+serve_app = with_rule (with_rule (with_rule (with_rule (with_rule (with_rule (with_rule (with_rule (with_rule (with_rule (with_rule (with_rule (with_rule (with_rule (with_rule (with_rule (with_rule (with_rule (with_rule (word_app (codes "serve") (codes "folder"))
     (port_option (codes "control"))) (port_option (codes "receive"))) address_option) idle_option) settle_option)
     (flag_option (codes "aeron"))) window_option) clients_option) stream_option) segment_option) (flag_option (codes "quiet")))
-    (flag_option (codes "strict"))) metrics_option
+    (flag_option (codes "strict"))) metrics_option) (flag_option (codes "checkpoints"))) (flag_option (codes "no-checkpoints"))) name_option) (flag_option (codes "log-times"))) (flag_option (codes "no-create"))) waiting_option
+
+-- and with the options of consumers
+abbrev pub consumers_app : App
+consumers_app = with_rule (with_rule serve_app consumers_option) consumers_address_option
 
 -- a number of an i64 from 0 on, which has to be given
 abbrev pub number_word : Text → Rule
@@ -175,9 +215,8 @@ named_tool = on_top (λ s. record s { has_version = true; subcommand_required = 
 -- and its commands
 abbrev pub tool_app : App
 tool_app = with_subcommand (with_subcommand (with_subcommand (with_subcommand (with_subcommand (with_subcommand (with_subcommand (with_subcommand (with_subcommand (with_subcommand named_tool create_app.top) run_app.top)
-    (flag_app (codes "list") (codes "read-only")).top) (flag_app (codes "verify") (codes "read-only")).top)
-    (word_app (codes "frames") (codes "file")).top) (flag_app (codes "describe") (codes "json")).top) serve_app.top)
-    (word_app (codes "compact") (codes "folder")).top) export_app.top) ask_app.top
+    list_app.top) verify_app.top) (word_app (codes "frames") (codes "file")).top) describe_app.top) consumers_app.top)
+    compact_app.top) export_app.top) ask_app.top
 
 -- the command is that one, and has no argument that its subcommands have too
 pub record IsCommand (app : App) (command : Command) : Type 0 where
@@ -187,12 +226,12 @@ pub record IsCommand (app : App) (command : Command) : Type 0 where
 -- the word that asks for a command
 abbrev pub command_word : ToolCommand → Text
 command_word (Create folder history) = codes "create"
-command_word (Run folder) = codes "run"
+command_word (Run folder checkpoints wait) = codes "run"
 command_word (Serve words) = codes "serve"
-command_word (Compact folder) = codes "compact"
-command_word (AskList folder read_only) = codes "list"
-command_word (Verify folder read_only) = codes "verify"
-command_word (Describe folder json) = codes "describe"
+command_word (Compact folder wait) = codes "compact"
+command_word (AskList folder read_only wait) = codes "list"
+command_word (Verify folder recording read_only wait) = codes "verify"
+command_word (Describe folder recording json) = codes "describe"
 command_word (Export folder recording from to pcap) = codes "export"
 command_word (Frames file) = codes "frames"
 command_word (Ask words) = codes "ask"
@@ -240,11 +279,19 @@ pub record IsServing (rows : List Row) (words : ServeWords) : Type 0 where
   pub aeron_is : IsFlag (one_of (codes "aeron") rows) words.is_aeron
   pub window_is : IsNumberIf (one_of (codes "window") rows) words.window
   pub clients_is : IsNumberIf (one_of (codes "clients") rows) words.clients
+  pub consumers_is : IsNumberIf (one_of (codes "consumers") rows) words.consumers
+  pub consumers_on_is : first_of (codes "consumers-on") rows ≡ option_map (λ address. address.now) words.consumers_on
   pub streams_are : AreStreams rows words.streams.items
   pub segment_is : IsNumberIf (one_of (codes "segment-length") rows) words.segment_length
   pub quiet_is : IsFlag (one_of (codes "quiet") rows) words.is_quiet
   pub strict_is : IsFlag (one_of (codes "strict") rows) words.is_strict
   pub metrics_is : first_of (codes "metrics") rows ≡ option_map (λ file. file.now) words.metrics
+  pub checkpoints_is : IsFlag (one_of (codes "checkpoints") rows) words.checkpoints
+  pub no_checkpoints_is : IsFlag (one_of (codes "no-checkpoints") rows) words.no_checkpoints
+  pub name_is : first_of (codes "name") rows ≡ option_map (λ text. text.now) words.name
+  pub times_are : IsFlag (one_of (codes "log-times") rows) words.logs_times
+  pub no_create_is : IsFlag (one_of (codes "no-create") rows) words.no_create
+  pub wait_is : IsNumberIf (one_of (codes "wait") rows) words.wait
 
 -- the text is an i64 in decimal, and this number
 abbrev pub IsSigned : ℤ → Text → Type 0
@@ -265,6 +312,19 @@ pub record IsExporting (rows : List Row) (folder : Text) (recording : ℤ) (from
   pub to_is : IsSignedIf (one_of (codes "to") rows) to
   pub pcap_is : first_of (codes "pcap") rows ≡ Some pcap
 
+-- the words of `verify`
+pub record IsVerifying (rows : List Row) (folder : Text) (recording : Option ℤ) (read_only : Bool) (wait : Option ℕ) : Type 0 where
+  pub folder_is : first_of (codes "folder") rows ≡ Some folder
+  pub recording_is : IsSignedIf (one_of (codes "recording") rows) recording
+  pub read_only_is : IsFlag (one_of (codes "read-only") rows) read_only
+  pub wait_is : IsNumberIf (one_of (codes "wait") rows) wait
+
+-- the words of `describe`
+pub record IsDescribing (rows : List Row) (folder : Text) (recording : Option ℤ) (json : Bool) : Type 0 where
+  pub folder_is : first_of (codes "folder") rows ≡ Some folder
+  pub recording_is : IsSignedIf (one_of (codes "recording") rows) recording
+  pub json_is : IsFlag (one_of (codes "json") rows) json
+
 -- the words of `ask`
 pub record IsAsking (rows : List Row) (words : AskWords) : Type 0 where
   pub port_is : IsSomeAnd (one_of (codes "port") rows) (IsNumber words.port)
@@ -275,12 +335,14 @@ pub record IsAsking (rows : List Row) (words : AskWords) : Type 0 where
 -- the words of a command are those that its subcommand's entries hold
 abbrev pub HasWords : List Row → ToolCommand → Type 0
 HasWords rows (Create folder history) = (first_of (codes "folder") rows ≡ Some folder.now) × IsSomeAnd (one_of (codes "history") rows) (IsNumber history)
-HasWords rows (Run folder) = first_of (codes "folder") rows ≡ option_map (λ f. f.now) folder
+HasWords rows (Run folder checkpoints wait) =
+    (first_of (codes "folder") rows ≡ option_map (λ f. f.now) folder) × IsFlag (one_of (codes "checkpoints") rows) checkpoints × IsNumberIf (one_of (codes "wait") rows) wait
 HasWords rows (Serve words) = IsServing rows words
-HasWords rows (Compact folder) = first_of (codes "folder") rows ≡ Some folder.now
-HasWords rows (AskList folder read_only) = (first_of (codes "folder") rows ≡ Some folder.now) × IsFlag (one_of (codes "read-only") rows) read_only
-HasWords rows (Verify folder read_only) = (first_of (codes "folder") rows ≡ Some folder.now) × IsFlag (one_of (codes "read-only") rows) read_only
-HasWords rows (Describe folder json) = (first_of (codes "folder") rows ≡ Some folder.now) × IsFlag (one_of (codes "json") rows) json
+HasWords rows (Compact folder wait) = (first_of (codes "folder") rows ≡ Some folder.now) × IsNumberIf (one_of (codes "wait") rows) wait
+HasWords rows (AskList folder read_only wait) =
+    (first_of (codes "folder") rows ≡ Some folder.now) × IsFlag (one_of (codes "read-only") rows) read_only × IsNumberIf (one_of (codes "wait") rows) wait
+HasWords rows (Verify folder recording read_only wait) = IsVerifying rows folder.now recording read_only wait
+HasWords rows (Describe folder recording json) = IsDescribing rows folder.now recording json
 HasWords rows (Export folder recording from to pcap) = IsExporting rows folder.now recording from to pcap.now
 HasWords rows (Frames file) = first_of (codes "file") rows ≡ Some file.now
 HasWords rows (Ask words) = IsAsking rows words
@@ -304,17 +366,17 @@ abbrev pub IsPlainWord : Text → Type 0
 IsPlainWord [] = ⊥
 IsPlainWord (byte ∷ bytes) = byte ≢ 45
 
--- the folder or file of a command is such a word, its history is the one of which no word is said, and no flag is set; `serve`,
--- `export` and `ask` have more words
+-- the folder or file of a command is such a word, its history is the one of which no word is said, no flag is set, and it names no
+-- recording and no wait; `serve`, `export` and `ask` have more words
 abbrev pub IsPlain : ToolCommand → Type 0
 IsPlain (Create folder history) = IsPlainWord folder.now × (history ≡ 1048576)
-IsPlain (Run None) = Unit {0}
-IsPlain (Run (Some folder)) = IsPlainWord folder.now
+IsPlain (Run None checkpoints wait) = (checkpoints ≡ false) × (wait ≡ None)
+IsPlain (Run (Some folder) checkpoints wait) = IsPlainWord folder.now × (checkpoints ≡ false) × (wait ≡ None)
 IsPlain (Serve words) = ⊥
-IsPlain (Compact folder) = IsPlainWord folder.now
-IsPlain (AskList folder read_only) = IsPlainWord folder.now × (read_only ≡ false)
-IsPlain (Verify folder read_only) = IsPlainWord folder.now × (read_only ≡ false)
-IsPlain (Describe folder json) = IsPlainWord folder.now × (json ≡ false)
+IsPlain (Compact folder wait) = IsPlainWord folder.now × (wait ≡ None)
+IsPlain (AskList folder read_only wait) = IsPlainWord folder.now × (read_only ≡ false) × (wait ≡ None)
+IsPlain (Verify folder recording read_only wait) = IsPlainWord folder.now × (recording ≡ None) × (read_only ≡ false) × (wait ≡ None)
+IsPlain (Describe folder recording json) = IsPlainWord folder.now × (recording ≡ None) × (json ≡ false)
 IsPlain (Export folder recording from to pcap) = ⊥
 IsPlain (Frames file) = IsPlainWord file.now
 IsPlain (Ask words) = ⊥
@@ -322,13 +384,13 @@ IsPlain (Ask words) = ⊥
 -- the word of a command, and its folder or file where it has one
 abbrev pub words_of : ToolCommand → List Text
 words_of (Create folder history) = codes "create" ∷ folder.now ∷ []
-words_of (Run None) = codes "run" ∷ []
-words_of (Run (Some folder)) = codes "run" ∷ folder.now ∷ []
+words_of (Run None checkpoints wait) = codes "run" ∷ []
+words_of (Run (Some folder) checkpoints wait) = codes "run" ∷ folder.now ∷ []
 words_of (Serve words) = codes "serve" ∷ words.folder.now ∷ []
-words_of (Compact folder) = codes "compact" ∷ folder.now ∷ []
-words_of (AskList folder read_only) = codes "list" ∷ folder.now ∷ []
-words_of (Verify folder read_only) = codes "verify" ∷ folder.now ∷ []
-words_of (Describe folder json) = codes "describe" ∷ folder.now ∷ []
+words_of (Compact folder wait) = codes "compact" ∷ folder.now ∷ []
+words_of (AskList folder read_only wait) = codes "list" ∷ folder.now ∷ []
+words_of (Verify folder recording read_only wait) = codes "verify" ∷ folder.now ∷ []
+words_of (Describe folder recording json) = codes "describe" ∷ folder.now ∷ []
 words_of (Export folder recording from to pcap) = codes "export" ∷ folder.now ∷ []
 words_of (Frames file) = codes "frames" ∷ file.now ∷ []
 words_of (Ask words) = codes "ask" ∷ []

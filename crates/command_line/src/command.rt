@@ -2,10 +2,10 @@
 
 ghost use Rattle.std.specs.Prelude.{◌≡◌, ◌≢◌, ◌∷◌, [], ℕ, List, Ok, IfOk, IfErr, MatchOption, codes, false, map, string_bytes};
 ghost use Rattle.clap.specs.Words.{AddsSubcommand, app_of, fault_of, found_of, kind_of, rows_of, rule_of, subcommand_rows_of};
-ghost use Rattle.command_line.specs.CommandLine.{IsAsked, IsCommand, IsHeld, IsMet, IsPlain, IsWordsFault, create_app, export_app, file_option, flag_app, flag_option, history_option, named_tool, number_word, position_option, required_word, run_app, tool_app, word_app, words_of};
+ghost use Rattle.command_line.specs.CommandLine.{IsAsked, IsCommand, IsHeld, IsMet, IsPlain, IsWordsFault, compact_app, create_app, describe_app, export_app, file_option, flag_option, history_option, list_app, named_tool, number_word, position_option, recording_word, required_word, run_app, tool_app, verify_app, waiting_option, word_app, words_of};
 
 use crate::asking::{AskWords, ask, asking};
-use crate::serving::{ServeWords, serve, served};
+use crate::serving::{ServeWords, serve_consumers, served};
 use crate::version::VERSION;
 use clap::builder::ValueParser;
 use clap::error::ErrorKind;
@@ -23,26 +23,40 @@ pub enum ToolCommand<'a> {
     /// Answer control lines from standard input on standard output, over the archive of a folder or over memory.
     Run {
         folder: Option<&'a str>,
+        /// Whether checkpoints are made between lines.
+        checkpoints: bool,
+        /// Seconds for which the folder is waited for while it is in use. None: it is not waited for.
+        wait: Option<u32>,
     },
     /// Answer control lines of connections, over the archive of a folder, and record what datagrams bring.
     Serve(ServeWords<'a>),
     /// Write the catalogue of the archive of a folder anew, so that its history has room again.
     Compact {
         folder: &'a str,
+        /// Seconds, as in `Run`.
+        wait: Option<u32>,
     },
     /// Print the recordings of the archive of a folder, which is changed by nothing but its opening, or not at all.
     List {
         folder: &'a str,
         read_only: bool,
+        /// Seconds, as in `Run`.
+        wait: Option<u32>,
     },
     /// Read each recorded frame of the archive of a folder, which is changed by nothing but its opening, or not at all.
     Verify {
         folder: &'a str,
+        /// The id of the recording that is read alone. None: all are read.
+        recording: Option<i64>,
         read_only: bool,
+        /// Seconds, as in `Run`.
+        wait: Option<u32>,
     },
     /// Print what is known of the archive of a folder, which is only read, as a page or as JSON.
     Describe {
         folder: &'a str,
+        /// The id of the recording that is described alone. None: the archive is.
+        recording: Option<i64>,
         json: bool,
     },
     /// Write the frames of a recording, of the archive of a folder, which is only read, into a capture file.
@@ -114,7 +128,7 @@ const VERIFY_HELP: &str =
     "Reads each recorded frame of the archive in a folder, and prints for each recording, by rising id, a line \
 `verified <frames>`, or a line `error <number> <name>`. It asks that the header of each frame stands where the one before \
 it ends, and belongs to the recording; bytes of a payload that have changed it does not find, nor that the last entries of \
-the catalogue are gone. The folder has to be on a local file system, and one process may have it open at a time.";
+the catalogue are gone. With a recording's id it reads that recording alone. The folder has to be on a local file system, and one process may have it open at a time.";
 
 const VERIFY_EXAMPLE: &str = "Example: archive_tool verify /var/lib/recorder
 
@@ -134,7 +148,8 @@ const DESCRIBE_HELP: &str =
     "Prints what is known of the archive in a folder: of each recording, by rising id, its state, channel, stream and session, \
 when it was started and stopped as dates in UTC, its first and its recorded position, its bytes and segment files, and the \
 lengths of its terms and segments and its MTU; and then totals, how many entries of the history are used, the segment files \
-that a sweep would remove, and why, and those that no recording knows. Positions and lengths are in bytes. The folder is \
+that a sweep would remove, and why, and those that no recording knows. With a recording's id it prints that recording alone. \
+Positions and lengths are in bytes. The folder is \
 only read, also while another process has it open: nothing is locked, written or stopped.";
 
 const DESCRIBE_EXAMPLE: &str = "Example: archive_tool describe /var/lib/recorder --json
@@ -156,11 +171,19 @@ Statuses: 0 done, 1 refused, 2 a wrong command line, 3 a device fault or damage,
 const READ_ONLY_HELP: &str =
     "Only reads the folder, also while another process has it open: nothing is locked, written, synced or stopped";
 
+const WAIT_HELP: &str =
+    "For how many seconds to wait, from 1 to 86400, while another process has the folder open; without it not at all";
+
+const RECORDING_HELP: &str = "The recording's id, if only that one is asked for";
+
 const JSON_HELP: &str = "Prints it as one JSON text";
 
 const FROM_HELP: &str = "Where the first frame begins, and not at the recording's start";
 
 const TO_HELP: &str = "Where the last frame ends, and not at the recorded position";
+
+pub(crate) const CHECKPOINTS_HELP: &str =
+    "Makes the history short when half of it is used, while recordings go on, and answers the line `checkpoint`";
 
 pub(crate) const FOLDER_HELP: &str = "The archive's folder, on a local file system";
 
@@ -196,6 +219,28 @@ pub(crate) fn flag<'a>(alloc: Global, name: &'a str, help: &'a str) -> Arg<'a>
         .help(help)
 }
 
+/// The option `--wait` of a command that opens a folder, in seconds.
+pub(crate) fn waiting<'a>(alloc: Global) -> Arg<'a>
+    ensures rule { rule_of result ≡ waiting_option }
+    ensures local { result.global ≡ false }
+{
+    Arg::new(alloc, "wait")
+        .long("wait")
+        .value_name("seconds")
+        .value_parser(ValueParser::signed(1, 86_400))
+        .help(WAIT_HELP)
+}
+
+/// The id of a recording, which may be given.
+fn one_recording<'a>(alloc: Global) -> Arg<'a>
+    ensures rule { rule_of result ≡ recording_word }
+    ensures local { result.global ≡ false }
+{
+    Arg::new(alloc, "recording")
+        .value_parser(ValueParser::signed(0, i64::MAX))
+        .help(RECORDING_HELP)
+}
+
 fn create<'a>(alloc: Global) -> Result<Command<'a>, AllocError>
     ensures { IfOk result (IsCommand create_app) }
 {
@@ -214,49 +259,64 @@ fn run<'a>(alloc: Global) -> Result<Command<'a>, AllocError>
         .about("Answers control lines from standard input on standard output")
         .long_about(RUN_HELP)
         .after_help(RUN_EXAMPLE)
-        .arg(Arg::new(alloc, "folder").help(FOLDER_HELP))
+        .arg(Arg::new(alloc, "folder").help(FOLDER_HELP))?
+        .arg(flag(alloc, "checkpoints", CHECKPOINTS_HELP))?
+        .arg(waiting(alloc))
 }
 
 fn compact<'a>(alloc: Global) -> Result<Command<'a>, AllocError>
-    ensures { IfOk result (IsCommand (word_app (codes "compact") (codes "folder"))) }
+    ensures { IfOk result (IsCommand compact_app) }
 {
     Command::new(alloc, "compact")
         .about("Makes room in the history of an archive")
         .long_about(COMPACT_HELP)
         .after_help(COMPACT_EXAMPLE)
-        .arg(required(alloc, "folder", FOLDER_HELP))
+        .arg(required(alloc, "folder", FOLDER_HELP))?
+        .arg(waiting(alloc))
 }
 
 fn list<'a>(alloc: Global) -> Result<Command<'a>, AllocError>
-    ensures { IfOk result (IsCommand (flag_app (codes "list") (codes "read-only"))) }
+    ensures { IfOk result (IsCommand list_app) }
 {
     Command::new(alloc, "list")
         .about("Prints the recordings of an archive")
         .long_about(LIST_HELP)
         .after_help(LIST_EXAMPLE)
         .arg(required(alloc, "folder", FOLDER_HELP))?
-        .arg(flag(alloc, "read-only", READ_ONLY_HELP))
+        .arg(flag(alloc, "read-only", READ_ONLY_HELP))?
+        .arg(waiting(alloc))
 }
 
 fn verify<'a>(alloc: Global) -> Result<Command<'a>, AllocError>
-    ensures { IfOk result (IsCommand (flag_app (codes "verify") (codes "read-only"))) }
+    ensures { IfOk result (IsCommand verify_app) }
+{
+    let command = verify_folder(alloc)?;
+    command
+        .arg(one_recording(alloc))?
+        .arg(flag(alloc, "read-only", READ_ONLY_HELP))?
+        .arg(waiting(alloc))
+}
+
+/// The command `verify` with its folder.
+fn verify_folder<'a>(alloc: Global) -> Result<Command<'a>, AllocError>
+    ensures { IfOk result (IsCommand (word_app (codes "verify") (codes "folder"))) }
 {
     Command::new(alloc, "verify")
         .about("Reads each recorded frame of an archive")
         .long_about(VERIFY_HELP)
         .after_help(VERIFY_EXAMPLE)
-        .arg(required(alloc, "folder", FOLDER_HELP))?
-        .arg(flag(alloc, "read-only", READ_ONLY_HELP))
+        .arg(required(alloc, "folder", FOLDER_HELP))
 }
 
 fn describe<'a>(alloc: Global) -> Result<Command<'a>, AllocError>
-    ensures { IfOk result (IsCommand (flag_app (codes "describe") (codes "json"))) }
+    ensures { IfOk result (IsCommand describe_app) }
 {
     Command::new(alloc, "describe")
         .about("Prints what is known of an archive, which is only read")
         .long_about(DESCRIBE_HELP)
         .after_help(DESCRIBE_EXAMPLE)
         .arg(required(alloc, "folder", FOLDER_HELP))?
+        .arg(one_recording(alloc))?
         .arg(flag(alloc, "json", JSON_HELP))
 }
 
@@ -359,7 +419,7 @@ fn tool<'a>(alloc: Global) -> Result<Command<'a>, AllocError>
     let tool = with(tool, verify(alloc))?;
     let tool = with(tool, frames(alloc))?;
     let tool = with(tool, describe(alloc))?;
-    let tool = with(tool, serve(alloc))?;
+    let tool = with(tool, serve_consumers(alloc))?;
     let tool = with(tool, compact(alloc))?;
     let tool = with(tool, export(alloc))?;
     with(tool, ask(alloc))
@@ -385,6 +445,40 @@ fn exported<'a>(own: &ArgMatches<'a>) -> Option<ToolCommand<'a>>
     })
 }
 
+/// The command `verify` that its matches hold.
+fn verified<'a>(own: &ArgMatches<'a>) -> Option<ToolCommand<'a>>
+    ensures { MatchOption result
+        ((command : ToolCommand) → IsAsked (codes "verify") (rows_of (found_of own.now)) command → ⊥)
+        (IsAsked (codes "verify") (rows_of (found_of own.now))) }
+{
+    let folder = own.get_str("folder")?;
+    let recording = own.get_one::<i64>("recording");
+    let read_only = own.get_flag("read-only");
+    let wait = own.get_one::<u32>("wait");
+    Some(ToolCommand::Verify {
+        folder,
+        recording,
+        read_only,
+        wait,
+    })
+}
+
+/// The command `describe` that its matches hold.
+fn described<'a>(own: &ArgMatches<'a>) -> Option<ToolCommand<'a>>
+    ensures { MatchOption result
+        ((command : ToolCommand) → IsAsked (codes "describe") (rows_of (found_of own.now)) command → ⊥)
+        (IsAsked (codes "describe") (rows_of (found_of own.now))) }
+{
+    let folder = own.get_str("folder")?;
+    let recording = own.get_one::<i64>("recording");
+    let json = own.get_flag("json");
+    Some(ToolCommand::Describe {
+        folder,
+        recording,
+        json,
+    })
+}
+
 /// The command that a subcommand's name and matches hold, if it is one of the program's other than `ask` and `serve`.
 fn asked<'a>(name: &str, own: &ArgMatches<'a>) -> Option<ToolCommand<'a>>
     requires ask { name.now ≢ codes "ask" }
@@ -400,23 +494,21 @@ fn asked<'a>(name: &str, own: &ArgMatches<'a>) -> Option<ToolCommand<'a>>
         }),
         "run" => Some(ToolCommand::Run {
             folder: own.get_str("folder"),
+            checkpoints: own.get_flag("checkpoints"),
+            wait: own.get_one::<u32>("wait"),
         }),
         "export" => exported(own),
         "compact" => Some(ToolCommand::Compact {
             folder: own.get_str("folder")?,
+            wait: own.get_one::<u32>("wait"),
         }),
         "list" => Some(ToolCommand::List {
             folder: own.get_str("folder")?,
             read_only: own.get_flag("read-only"),
+            wait: own.get_one::<u32>("wait"),
         }),
-        "verify" => Some(ToolCommand::Verify {
-            folder: own.get_str("folder")?,
-            read_only: own.get_flag("read-only"),
-        }),
-        "describe" => Some(ToolCommand::Describe {
-            folder: own.get_str("folder")?,
-            json: own.get_flag("json"),
-        }),
+        "verify" => verified(own),
+        "describe" => described(own),
         "frames" => Some(ToolCommand::Frames {
             file: own.get_str("file")?,
         }),

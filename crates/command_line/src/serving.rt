@@ -3,9 +3,9 @@
 ghost use Rattle.std.specs.Prelude.{◌≡◌, ℤ, IfOk, List, MatchOption, codes, false, map};
 ghost use Rattle.clap.specs.Words.{found_of, rows_of, rule_of};
 ghost use Rattle.command_line.specs.declared.serving.ServeWords.{ServeWords};
-ghost use Rattle.command_line.specs.CommandLine.{AreNumbers, AreStreams, IsCommand, IsServing, address_option, clients_option, idle_option, metrics_option, port_option, segment_option, serve_app, settle_option, stream_option, window_option, word_app};
+ghost use Rattle.command_line.specs.CommandLine.{AreNumbers, AreStreams, IsCommand, IsServing, address_option, clients_option, consumers_address_option, consumers_option, consumers_app, idle_option, metrics_option, name_option, port_option, segment_option, serve_app, settle_option, stream_option, window_option, word_app};
 
-use crate::command::{FOLDER_HELP, flag, required};
+use crate::command::{CHECKPOINTS_HELP, FOLDER_HELP, flag, required, waiting};
 use clap::builder::ValueParser;
 use clap::{Arg, ArgAction, ArgMatches, Command, value_parser};
 use std::alloc::{AllocError, Global};
@@ -30,6 +30,10 @@ pub struct ServeWords<'a> {
     pub window: Option<u32>,
     /// How many clients are served at a time. None: no word names it.
     pub clients: Option<u32>,
+    /// The TCP port that lines of clients that only read come to. None: no word names it.
+    pub consumers: Option<u32>,
+    /// The address of that port. None: no word names it.
+    pub consumers_on: Option<&'a str>,
     /// The ids of the streams that the server records by itself, in the order of the words.
     pub streams: Vec<i32>,
     /// Bytes of a segment file of these recordings. None: no word names it.
@@ -40,13 +44,25 @@ pub struct ServeWords<'a> {
     pub is_strict: bool,
     /// The file that the metrics are written to each second, as it was given. None: there is no such file.
     pub metrics: Option<&'a str>,
+    /// Whether checkpoints are asked for.
+    pub checkpoints: bool,
+    /// Whether a word asks for none.
+    pub no_checkpoints: bool,
+    /// The name of this recorder, which its lines on standard error begin with, as it was given. None: they have none.
+    pub name: Option<&'a str>,
+    /// Whether each line on standard error begins with its time and a level.
+    pub logs_times: bool,
+    /// Whether a folder without an archive is refused.
+    pub no_create: bool,
+    /// Seconds for which the folder is waited for while it is in use. None: it is not waited for.
+    pub wait: Option<u32>,
 }
 
 const SERVE_HELP: &str =
     "Records the datagrams of Aeron publications that come by UDP into the archive of a folder. It sends NAK frames for what is \
 missing. With `--aeron` it also sends status messages, which Aeron's media drivers wait for. Control lines come by TCP, one \
 connection after another or as many at a time as `--clients` says, and are answered as those of `run`. The line `quit` ends \
-the server. Standard error reports what happens. Control lines have no authentication, so they come to 127.0.0.1 alone. The \
+the server. Clients that only read may come to `--consumers`, also from other hosts. Standard error reports what happens. Control lines have no authentication, so they come to 127.0.0.1 alone. The \
 folder has to be on a local file system, and one process may have it open at a time.";
 
 const SERVE_EXAMPLE: &str =
@@ -71,7 +87,13 @@ const WINDOW_HELP: &str =
 
 const CLIENTS_HELP: &str =
     "How many clients are served at a time, from 1 to 64; their replays are closed when they leave. \
-Without it one, whose replays stay open";
+Without it one, whose replays stay open: a client that polls without a pause then keeps all others out";
+
+const CONSUMERS_HELP: &str =
+    "A TCP port for clients that only read, 64 at a time: it answers list, find, positions, source, images, follow and quit";
+
+const CONSUMERS_ON_HELP: &str =
+    "The IPv4 address of that port, for clients on other hosts; without it 127.0.0.1. It needs --consumers";
 
 const STREAM_HELP: &str =
     "A stream that the server records by itself, without a control line; for several streams give it several \
@@ -90,6 +112,18 @@ full. Without it the server stays up, and answers lines";
 const METRICS_HELP: &str =
     "A file that metrics are written to each second, in the text format of Prometheus, as a textfile collector reads it. It \
 is written beside its place as <file>.part, and then renamed";
+
+const NO_CHECKPOINTS_HELP: &str =
+    "Makes no checkpoints, which --aeron makes without being asked. It needs --aeron";
+
+const NAME_HELP: &str =
+    "The name of this recorder, 1 to 64 of the characters A-Z, a-z, 0-9, _, . and -: lines on standard error begin with it";
+
+const TIMES_HELP: &str =
+    "Begins each line on standard error with its time in UTC, and `error` or `info`";
+
+const NO_CREATE_HELP: &str =
+    "Refuses a folder without an archive, and makes nothing in it. Without it an empty folder gets a new archive";
 
 /// A port of `serve`, which has to be given.
 fn port<'a>(alloc: Global, name: &'a str, help: &'a str) -> Arg<'a>
@@ -166,6 +200,29 @@ fn clients<'a>(alloc: Global) -> Arg<'a>
         .help(CLIENTS_HELP)
 }
 
+/// The option `--consumers`, a port.
+fn consumers<'a>(alloc: Global) -> Arg<'a>
+    ensures rule { rule_of result ≡ consumers_option }
+    ensures local { result.global ≡ false }
+{
+    Arg::new(alloc, "consumers")
+        .long("consumers")
+        .value_name("port")
+        .value_parser(ValueParser::signed(1, 65_535))
+        .help(CONSUMERS_HELP)
+}
+
+/// The option `--consumers-on`, an address.
+fn consumers_on<'a>(alloc: Global) -> Arg<'a>
+    ensures rule { rule_of result ≡ consumers_address_option }
+    ensures local { result.global ≡ false }
+{
+    Arg::new(alloc, "consumers-on")
+        .long("consumers-on")
+        .value_name("address")
+        .help(CONSUMERS_ON_HELP)
+}
+
 /// The option `--record`, a stream id, which may come several times.
 fn stream<'a>(alloc: Global) -> Arg<'a>
     ensures rule { rule_of result ≡ stream_option }
@@ -202,6 +259,17 @@ fn metrics<'a>(alloc: Global) -> Arg<'a>
         .help(METRICS_HELP)
 }
 
+/// The option `--name`, a text.
+fn name<'a>(alloc: Global) -> Arg<'a>
+    ensures rule { rule_of result ≡ name_option }
+    ensures local { result.global ≡ false }
+{
+    Arg::new(alloc, "name")
+        .long("name")
+        .value_name("text")
+        .help(NAME_HELP)
+}
+
 /// The command `serve` with its folder.
 fn serve_folder<'a>(alloc: Global) -> Result<Command<'a>, AllocError>
     ensures { IfOk result (IsCommand (word_app (codes "serve") (codes "folder"))) }
@@ -213,8 +281,8 @@ fn serve_folder<'a>(alloc: Global) -> Result<Command<'a>, AllocError>
         .arg(required(alloc, "folder", FOLDER_HELP))
 }
 
-/// The command `serve`.
-pub(crate) fn serve<'a>(alloc: Global) -> Result<Command<'a>, AllocError>
+/// The command `serve` without the options of consumers.
+fn serve<'a>(alloc: Global) -> Result<Command<'a>, AllocError>
     ensures { IfOk result (IsCommand serve_app) }
 {
     let command = serve_folder(alloc)?;
@@ -231,7 +299,21 @@ pub(crate) fn serve<'a>(alloc: Global) -> Result<Command<'a>, AllocError>
         .arg(segment_length(alloc))?
         .arg(flag(alloc, "quiet", QUIET_HELP))?
         .arg(flag(alloc, "strict", STRICT_HELP))?
-        .arg(metrics(alloc))
+        .arg(metrics(alloc))?
+        .arg(flag(alloc, "checkpoints", CHECKPOINTS_HELP))?
+        .arg(flag(alloc, "no-checkpoints", NO_CHECKPOINTS_HELP))?
+        .arg(name(alloc))?
+        .arg(flag(alloc, "log-times", TIMES_HELP))?
+        .arg(flag(alloc, "no-create", NO_CREATE_HELP))?
+        .arg(waiting(alloc))
+}
+
+/// The command `serve`.
+pub(crate) fn serve_consumers<'a>(alloc: Global) -> Result<Command<'a>, AllocError>
+    ensures { IfOk result (IsCommand consumers_app) }
+{
+    let command = serve(alloc)?;
+    command.arg(consumers(alloc))?.arg(consumers_on(alloc))
 }
 
 /// The words of `serve` that its matches hold. An error: there is no memory for the streams.
@@ -293,10 +375,18 @@ fn words_of<'a>(own: &ArgMatches<'a>, streams: Vec<i32>) -> Option<ServeWords<'a
     let is_aeron = own.get_flag("aeron");
     let window = own.get_one::<u32>("window");
     let clients = own.get_one::<u32>("clients");
+    let consumers = own.get_one::<u32>("consumers");
+    let consumers_on = own.get_str("consumers-on");
     let segment_length = own.get_one::<u32>("segment-length");
     let is_quiet = own.get_flag("quiet");
     let is_strict = own.get_flag("strict");
     let metrics = own.get_str("metrics");
+    let checkpoints = own.get_flag("checkpoints");
+    let no_checkpoints = own.get_flag("no-checkpoints");
+    let name = own.get_str("name");
+    let logs_times = own.get_flag("log-times");
+    let no_create = own.get_flag("no-create");
+    let wait = own.get_one::<u32>("wait");
     Some(ServeWords {
         folder,
         control,
@@ -307,10 +397,18 @@ fn words_of<'a>(own: &ArgMatches<'a>, streams: Vec<i32>) -> Option<ServeWords<'a
         is_aeron,
         window,
         clients,
+        consumers,
+        consumers_on,
         streams,
         segment_length,
         is_quiet,
         is_strict,
         metrics,
+        checkpoints,
+        no_checkpoints,
+        name,
+        logs_times,
+        no_create,
+        wait,
     })
 }

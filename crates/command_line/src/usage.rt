@@ -15,12 +15,24 @@ pub enum UsageError {
     NeedsAeron,
     /// `--record` comes without `--aeron`.
     RecordNeedsAeron,
+    /// `--no-checkpoints` comes without `--aeron`.
+    NoCheckpointsNeedsAeron,
+    /// `--checkpoints` comes with `--no-checkpoints`.
+    Checkpoints,
     /// `--record` comes too often.
     Streams,
     /// `--segment-length` comes without `--record`.
     NeedsRecord,
     /// The word of `--segment-length` is not a power of two in its range.
     SegmentLength,
+    /// The word of `--name` is no name.
+    Name,
+    /// The word of `--consumers-on` is no address.
+    ConsumersAddress,
+    /// The word of `--consumers-on` is a multicast address.
+    ConsumersMulticast,
+    /// `--consumers-on` comes without `--consumers`.
+    NeedsConsumers,
     /// Lines may not be sent at once.
     Lines,
     /// The word of `--until` is more than one line.
@@ -37,9 +49,19 @@ impl fmt::Display for UsageError {
             UsageError::Window => "--window wants a multiple of 32",
             UsageError::NeedsAeron => "--window needs --aeron",
             UsageError::RecordNeedsAeron => "--record needs --aeron",
+            UsageError::NoCheckpointsNeedsAeron => "--no-checkpoints needs --aeron",
+            UsageError::Checkpoints => "--checkpoints and --no-checkpoints contradict each other",
             UsageError::Streams => "--record may be given at most 64 times",
             UsageError::NeedsRecord => "--segment-length needs --record",
             UsageError::SegmentLength => "--segment-length wants a power of two",
+            UsageError::Name => {
+                "--name wants 1 to 64 of the characters A-Z, a-z, 0-9, _, . and -"
+            }
+            UsageError::ConsumersAddress => "--consumers-on wants an IPv4 address",
+            UsageError::ConsumersMulticast => {
+                "--consumers-on wants an address of this machine, not a multicast address"
+            }
+            UsageError::NeedsConsumers => "--consumers-on needs --consumers",
             UsageError::Lines => "lines have no line feed, and with their ends at most 65536 bytes",
             UsageError::Until => "--until wants a line without a line feed",
         })

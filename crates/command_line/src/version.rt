@@ -3,4 +3,4 @@
 /// The program's version; then the version of the catalogues that it writes, docs/STORAGE.md, "Banks", and the toolchains that
 /// the program is proved with and built by.
 pub(crate) const VERSION: &str =
-    "0.1.0 (catalogue 2, rattle-kit-13b or later of logic dac8208d650f15bf)";
+    "0.2.0 (catalogue 2, rattle-kit-13b or later of logic dac8208d650f15bf)";

@@ -13,6 +13,10 @@ use Rattle.archive_model.specs.declared.reply.Reply.TheVariants as replies
 abbrev pub told : List ℕ → ℤ → List ℕ
 told word z = word ++ (signed_decimal z ++ codes "\n")
 
+-- a follower's frames come behind this line, from a position on
+abbrev pub following_line : ℤ → List ℕ
+following_line position = told (codes "following ") position
+
 -- a number of a longer line
 abbrev pub told_with : ℤ → List ℕ → List ℕ
 told_with z rest = codes " " ++ (signed_decimal z ++ rest)

@@ -1,9 +1,9 @@
 -- The grammar of control lines as a table, a row for each first word: docs/CONTROL.md, "Lines".
 use Rattle.std.specs.Prelude.{ℕ, ℤ, Bool, true, false, ◌||◌, List, [], ◌∷◌, ◌++◌, codes}
 use Rattle.control_core.specs.declared.request.Request.TheVariants as asks
-use Rattle.control_core.specs.declared.event.Event.TheVariants.{Ask, Settle, ReplayOpen, ReplayPoll, ReplayPollTo, ReplayClose, Sweep, Verify}
+use Rattle.control_core.specs.declared.event.Event.TheVariants.{Ask, Checkpoint, Settle, ReplayOpen, ReplayPoll, ReplayPollTo, ReplayClose, Sweep, Verify}
 use Rattle.control_lines.specs.declared.line.Line.{Line}
-use Rattle.control_lines.specs.declared.line.Line.TheVariants.{Event, Write, Block, Reopen, Compact, Merge, Quit}
+use Rattle.control_lines.specs.declared.line.Line.TheVariants.{Event, Write, Block, Follow, Reopen, Compact, Merge, Quit}
 use Rattle.control_lines.specs.declared.merge_line.MergeLine.TheVariants as merges
 
 -- what a word is: a number of 32 bits, a number of 64 bits, hexadecimal digits, or a text without a blank
@@ -143,7 +143,9 @@ archive_rows =
     ∷ row (codes "poll") (long & long & none) (λ replay most. Event (ReplayPoll replay most))
     ∷ poll_to_row
     ∷ row (codes "close") (long & none) (λ replay. Event (ReplayClose replay))
+    ∷ row (codes "follow") (long & long & long & none) (λ recording position size. Follow (record { recording = recording; position = position; length = size }))
     ∷ row (codes "sweep") none (Event Sweep)
+    ∷ row (codes "checkpoint") none (Event Checkpoint)
     ∷ row (codes "verify") (long & none) (λ recording. Event (Verify recording))
     ∷ row (codes "reopen") none Reopen
     ∷ row (codes "compact") none Compact

@@ -12,9 +12,9 @@ mod print;
 mod refusal_line;
 mod words;
 
-pub use line::Line;
+pub use line::{FollowFields, Line};
 pub use merge_line::MergeLine;
 pub use parse::parse_line;
 pub use polled::{TextBuffer, write_frame_line, write_polled};
-pub use print::print_reply;
+pub use print::{print_following, print_reply};
 pub use refusal_line::{RefusalLine, print_refusal};

@@ -4,7 +4,7 @@ ghost use Rattle.std.specs.Prelude.{◌≡◌, ◌++◌, false, true};
 ghost use Rattle.control_lines.specs.Table.{start_row, start_from_row, extend_row, catalogue_rows, asking_rows, archive_rows, merge_rows, rows};
 ghost use Rattle.control_lines.specs.Lines.{Reads, copies_by, line_copies, line_of, read, read_by, read_copies, read_of, text_copies, text_of};
 
-use crate::line::Line;
+use crate::line::{FollowFields, Line};
 use crate::merge_line::MergeLine;
 use crate::words::Words;
 use archive_model::{ExtendFields, SourceIdentity, StartFields};
@@ -56,7 +56,13 @@ fn archive_line(alloc: Global, word: &str, words: &mut Words) -> Result<Line, Re
         "close" => Line::Event(Event::ReplayClose {
             replay: words.long()?,
         }),
+        "follow" => Line::Follow(FollowFields {
+            recording: words.long()?,
+            position: words.long()?,
+            length: words.long()?,
+        }),
         "sweep" => Line::Event(Event::Sweep),
+        "checkpoint" => Line::Event(Event::Checkpoint),
         "verify" => Line::Event(Event::Verify {
             recording: words.long()?,
         }),

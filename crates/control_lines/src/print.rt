@@ -3,7 +3,7 @@
 ghost use Rattle.std.specs.Prelude.{◌≡◌, ◌++◌, OnOk, IfOk, IfErr, length, codes, decimal, string_bytes};
 ghost use Rattle.std.specs.List.{flat_map};
 ghost use Rattle.frame_core.specs.declared.refusal.Refusal.TheVariants.{NoMemory};
-ghost use Rattle.control_lines.specs.ReplyText.{told, descriptor_line, frame_line, source_line, end_line, taken_line, swept_line, merge_line, position_word, reply_text, settled_all_line};
+ghost use Rattle.control_lines.specs.ReplyText.{told, following_line, descriptor_line, frame_line, source_line, end_line, taken_line, swept_line, merge_line, position_word, reply_text, settled_all_line};
 
 use crate::polled::{TextBuffer, write_frame, write_polled};
 use archive_model::{Descriptor, PolledFrame, Reply, SourceIdentity};
@@ -168,6 +168,16 @@ fn text(alloc: Global, reply: &Reply) -> Result<Vec<u8>, AllocError>
         Reply::MergeState { is_merged, cursor } => merge_text(alloc, *is_merged, *cursor),
         Reply::Bye => Vec::from_slice(alloc, b"bye\n"),
     }
+}
+
+/// The line behind which a follower's frames come, from a position on, in bytes of the stream: docs/CONTROL.md, "Lines".
+///
+/// Only `NoMemory` is refused.
+pub fn print_following(alloc: Global, position: i64) -> Result<Vec<u8>, Refusal>
+    ensures text { IfOk result (λ text. text.items ≡ following_line position) }
+    ensures memory { IfErr result (λ refusal. refusal ≡ NoMemory) }
+{
+    Ok(told(alloc, "following ", position)?)
 }
 
 /// The reply's text, each line with its end: docs/CONTROL.md, "Lines". Costs the text's length.

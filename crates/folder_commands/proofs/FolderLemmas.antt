@@ -1,5 +1,5 @@
 -- How a command over a folder ends, by what it was answered of the watched disk.
-use Rattle.std.proofs.Common.{◌≡◌, ℕ, List, Option, Some, ap, subst, sym, ◌∙◌}
+use Rattle.std.proofs.Common.{◌≡◌, ℕ, ℤ, List, Option, Some, ap, subst, sym, ◌∙◌}
 use Rattle.std.specs.Prelude.{codes}
 use Rattle.std.specs.Io.KnownBytes.{Appends}
 use Rattle.disk_core.specs.Life.{IsQuiet, Life}
@@ -97,12 +97,12 @@ module _ (given : Given) (contents written : Option (List ℕ)) (left : Option L
         why ending so (subst (λ l. FailsToCreate limit l new why contents written) begins h))
 
   module _ (quiet : IsQuiet (life_from given) old) where
-    pub verify_done : (verdict : Verdict) (ending : Ending) → ending ≡ ending_by verdict → HasVerified old new contents written verdict → VerifiesFolder given contents written left ending
-    verify_done verdict ending so h =
-        ends_judged (λ n v. (o : Life) × IsQuiet (life_from given) o × HasVerified o n contents written v) (λ n why. (o : Life) × IsQuiet (life_from given) o × FailsToVerify o n why contents written) contents written left new is
+    pub verify_done : (asked : Option ℤ) (verdict : Verdict) (ending : Ending) → ending ≡ ending_by verdict → HasVerified asked old new contents written verdict → VerifiesFolder given asked contents written left ending
+    verify_done asked verdict ending so h =
+        ends_judged (λ n v. (o : Life) × IsQuiet (life_from given) o × HasVerified asked o n contents written v) (λ n why. (o : Life) × IsQuiet (life_from given) o × FailsToVerify asked o n why contents written) contents written left new is
         verdict ending so (old, quiet, h)
 
-    pub verify_stopped : (why : Stop) (ending : Ending) → ending ≡ ending_of why → FailsToVerify old new why contents written → VerifiesFolder given contents written left ending
-    verify_stopped why ending so h =
-        ends_stopped (λ n. (o : Life) × IsQuiet (life_from given) o × HasVerified o n contents written verdicts.Whole) (λ n. (o : Life) × IsQuiet (life_from given) o × HasVerified o n contents written verdicts.Refused) (λ n why. (o : Life) × IsQuiet (life_from given) o × FailsToVerify o n why contents written) contents written left new is
+    pub verify_stopped : (asked : Option ℤ) (why : Stop) (ending : Ending) → ending ≡ ending_of why → FailsToVerify asked old new why contents written → VerifiesFolder given asked contents written left ending
+    verify_stopped asked why ending so h =
+        ends_stopped (λ n. (o : Life) × IsQuiet (life_from given) o × HasVerified asked o n contents written verdicts.Whole) (λ n. (o : Life) × IsQuiet (life_from given) o × HasVerified asked o n contents written verdicts.Refused) (λ n why. (o : Life) × IsQuiet (life_from given) o × FailsToVerify asked o n why contents written) contents written left new is
         why ending so (old, quiet, h)

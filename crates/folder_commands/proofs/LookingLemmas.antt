@@ -1,5 +1,5 @@
 -- How a command that only looks at a folder ends, by what it was answered of the watched folder.
-use Rattle.std.proofs.Common.{◌≡◌, ℕ, Bool, List, Option, Some, ap, subst, ◌∙◌}
+use Rattle.std.proofs.Common.{◌≡◌, ℕ, ℤ, Bool, List, Option, Some, ap, subst, ◌∙◌}
 use Rattle.disk_core.specs.Life.{IsQuiet, Life}
 use Rattle.host_disk.specs.Events.{Given}
 use Rattle.host_disk.specs.declared.read_folder.ReadFolder.{ReadFolder}
@@ -40,23 +40,23 @@ module _ (given : Given) (contents written : Option (List ℕ)) (left : Option L
         ends_stopped (λ n. HasListed (life_from given) n contents written) (λ n. ⊥) (λ n why. FailsToList itself (life_from given) n why contents written) contents written left new is
         why ending so (subst (λ l. FailsToList itself l new why contents written) begins h)
 
-    pub describe_done : (json : Bool) (form : Form) → form ≡ form_of json → HasDescribed old new form contents written → DescribesFolder given json contents written left Done
-    describe_done json form asked h =
-        ends_done (λ n. HasDescribed (life_from given) n (form_of json) contents written) (λ n. ⊥) (λ n why. FailsToDescribe itself (life_from given) n why contents written) contents written left new is
-        (subst (λ f. HasDescribed (life_from given) new f contents written) asked (subst (λ l. HasDescribed l new form contents written) begins h))
+    pub describe_done : (one : Option ℤ) (json : Bool) (form : Form) → form ≡ form_of json → HasDescribed one old new form contents written → DescribesFolder given one json contents written left Done
+    describe_done one json form asked h =
+        ends_done (λ n. HasDescribed one (life_from given) n (form_of json) contents written) (λ n. ⊥) (λ n why. FailsToDescribe itself one (life_from given) n why contents written) contents written left new is
+        (subst (λ f. HasDescribed one (life_from given) new f contents written) asked (subst (λ l. HasDescribed one l new form contents written) begins h))
 
-    pub describe_stopped : (json : Bool) (why : Stop) (ending : Ending) → ending ≡ ending_of why → FailsToDescribe itself old new why contents written → DescribesFolder given json contents written left ending
-    describe_stopped json why ending so h =
-        ends_stopped (λ n. HasDescribed (life_from given) n (form_of json) contents written) (λ n. ⊥) (λ n why. FailsToDescribe itself (life_from given) n why contents written) contents written left new is
-        why ending so (subst (λ l. FailsToDescribe itself l new why contents written) begins h)
+    pub describe_stopped : (one : Option ℤ) (json : Bool) (why : Stop) (ending : Ending) → ending ≡ ending_of why → FailsToDescribe itself one old new why contents written → DescribesFolder given one json contents written left ending
+    describe_stopped one json why ending so h =
+        ends_stopped (λ n. HasDescribed one (life_from given) n (form_of json) contents written) (λ n. ⊥) (λ n why. FailsToDescribe itself one (life_from given) n why contents written) contents written left new is
+        why ending so (subst (λ l. FailsToDescribe itself one l new why contents written) begins h)
 
   module _ (quiet : IsQuiet (life_from given) old) where
-    pub look_verified : (verdict : Verdict) (ending : Ending) → ending ≡ ending_by verdict → HasVerified itself old new contents written verdict → VerifiesAsItStands given contents written left ending
-    look_verified verdict ending so h =
-        ends_judged (λ n v. (o : Life) × IsQuiet (life_from given) o × HasVerified itself o n contents written v) (λ n why. (o : Life) × IsQuiet (life_from given) o × FailsToVerify itself o n why contents written) contents written left new is
+    pub look_verified : (one : Option ℤ) (verdict : Verdict) (ending : Ending) → ending ≡ ending_by verdict → HasVerified itself one old new contents written verdict → VerifiesAsItStands given one contents written left ending
+    look_verified one verdict ending so h =
+        ends_judged (λ n v. (o : Life) × IsQuiet (life_from given) o × HasVerified itself one o n contents written v) (λ n why. (o : Life) × IsQuiet (life_from given) o × FailsToVerify itself one o n why contents written) contents written left new is
         verdict ending so (old, quiet, h)
 
-    pub look_unverified : (why : Stop) (ending : Ending) → ending ≡ ending_of why → FailsToVerify itself old new why contents written → VerifiesAsItStands given contents written left ending
-    look_unverified why ending so h =
-        ends_stopped (λ n. (o : Life) × IsQuiet (life_from given) o × HasVerified itself o n contents written verdicts.Whole) (λ n. (o : Life) × IsQuiet (life_from given) o × HasVerified itself o n contents written verdicts.Refused) (λ n why. (o : Life) × IsQuiet (life_from given) o × FailsToVerify itself o n why contents written) contents written left new is
+    pub look_unverified : (one : Option ℤ) (why : Stop) (ending : Ending) → ending ≡ ending_of why → FailsToVerify itself one old new why contents written → VerifiesAsItStands given one contents written left ending
+    look_unverified one why ending so h =
+        ends_stopped (λ n. (o : Life) × IsQuiet (life_from given) o × HasVerified itself one o n contents written verdicts.Whole) (λ n. (o : Life) × IsQuiet (life_from given) o × HasVerified itself one o n contents written verdicts.Refused) (λ n why. (o : Life) × IsQuiet (life_from given) o × FailsToVerify itself one o n why contents written) contents written left new is
         why ending so (old, quiet, h)

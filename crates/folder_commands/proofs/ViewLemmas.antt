@@ -25,27 +25,29 @@ module _ {D : Type 0} (life : D → Life) where
   view_unlisted old contents written disk (stops.Refused refusal) h = h
   view_unlisted old contents written disk (stops.Cut end) h = h
 
-  pub view_undescribed : (old : Life) (contents written : Option (List ℕ)) (disk : D) (why : Stop) → FailsToDescribe life old disk why contents written → FailsToDescribe itself old (life disk) why contents written
-  view_undescribed old contents written disk (stops.Refused refusal) h = h
-  view_undescribed old contents written disk (stops.Cut end) h = h
+  pub view_undescribed : (asked : Option ℤ) (old : Life) (contents written : Option (List ℕ)) (disk : D) (why : Stop) → FailsToDescribe life asked old disk why contents written → FailsToDescribe itself asked old (life disk) why contents written
+  view_undescribed asked old contents written disk (stops.Refused refusal) h = h
+  view_undescribed asked old contents written disk (stops.Cut end) h = h
 
   each : {old new : ArchiveView D} {ids : List ℤ} {outcomes : List (Result Reply Refusal)} → VerifiesEach life old new ids outcomes → VerifiesEach itself (bare old) (bare new) ids outcomes
   each h = record { inside = h.inside; same = h.same; desk = h.desk; total = h.total; each = h.each }
 
-  pub view_verified : {old new : Life} {contents written : Option (List ℕ)} {verdict : Verdict} → HasVerified life old new contents written verdict → HasVerified itself old new contents written verdict
+  pub view_verified : {asked : Option ℤ} {old new : Life} {contents written : Option (List ℕ)} {verdict : Verdict} → HasVerified life asked old new contents written verdict → HasVerified itself asked old new contents written verdict
   view_verified h = record {
     seen = bare h.seen;
     shown = h.shown;
+    there = h.there;
     last = bare h.last;
     verified = record { outcomes = h.verified.outcomes; answers = each h.verified.answers; told = h.verified.told; judged = h.verified.judged };
     left = h.left;
   }
 
-  pub view_unverified : (old : Life) (contents written : Option (List ℕ)) (disk : D) (why : Stop) → FailsToVerify life old disk why contents written → FailsToVerify itself old (life disk) why contents written
-  view_unverified old contents written disk (stops.Refused refusal) h = h
-  view_unverified old contents written disk (stops.Cut end) h = record {
+  pub view_unverified : (asked : Option ℤ) (old : Life) (contents written : Option (List ℕ)) (disk : D) (why : Stop) → FailsToVerify life asked old disk why contents written → FailsToVerify itself asked old (life disk) why contents written
+  view_unverified asked old contents written disk (stops.Refused refusal) h = h
+  view_unverified asked old contents written disk (stops.Cut end) h = record {
     seen = bare h.seen;
     shown = h.shown;
+    there = h.there;
     last = bare h.last;
     verified = record { outcomes = h.verified.outcomes; answers = each h.verified.answers; told = h.verified.told };
     left = h.left;

@@ -1,5 +1,5 @@
 -- What a command does over a folder, whatever files that holds, and a writer, and how it ends: docs/CONTROL.md, "The program".
-use Rattle.std.specs.Prelude.{◌≡◌, ◌⊎◌, ℕ, [], List, Option, None, Some, Result, Ok, Err, IsTrue, codes}
+use Rattle.std.specs.Prelude.{◌≡◌, ◌⊎◌, ℕ, ℤ, Bool, List, Option, None, Some, Result, Ok, Err, IsTrue, codes}
 use Rattle.std.specs.Io.KnownBytes.{Appends}
 use Rattle.frame_core.specs.declared.refusal.Refusal.TheVariants.{DeviceFault}
 use Rattle.disk_core.specs.Life.{IsQuiet, Life}
@@ -14,10 +14,11 @@ use Rattle.archive_commands.specs.declared.frames.Listing.TheVariants as listing
 use Rattle.archive_commands.specs.declared.reports.Verdict.{Verdict}
 use Rattle.archive_commands.specs.declared.reports.Verdict.TheVariants as verdicts
 use Rattle.tool_core.specs.Answering.{EndsEarly}
-use Rattle.tool_core.specs.Archives.{HasCompacted, IsScript, IsScriptOfFirst, IsUnopened}
+use Rattle.tool_core.specs.Archives.{HasCompacted, IsUnopened}
 use Rattle.archive_commands.specs.Commands.{FailsToCompact, FailsToCreate, FailsToList, FailsToVerify, HasListed, HasVerified, IsCreated}
 use Rattle.archive_commands.specs.FrameLines.{IsListing, Lists, ListsSome}
-use Rattle.tool_core.specs.Script.{Begins, IsTranscript, IsTranscriptOfFirst}
+use Rattle.tool_core.specs.CheckpointedScript.{IsScriptOfFirstWhere, IsScriptWhere, IsTranscriptOfFirstWhere, IsTranscriptWhere}
+use Rattle.tool_core.specs.Script.{Begins}
 use Rattle.tool_core.specs.ScriptLines.{Standing}
 use Rattle.tool_core.specs.Transcript.{WritesText}
 use Rattle.folder_commands.specs.declared.exit.Exit.{Exit}
@@ -64,13 +65,13 @@ module _ (given : Given) where
       (λ new why. FailsToList (life_from given) new why contents written)
       contents written
 
-  -- `verify`: behind at most a listing of its files each of its recordings was verified, and the answers are written; damage is
-  -- found where one is no reply
-  abbrev pub VerifiesFolder : Option (List ℕ) → Option (List ℕ) → Option Life → Ending → Type 0
-  VerifiesFolder contents written = EndsAs
-      (λ new. (old : Life) × IsQuiet (life_from given) old × HasVerified old new contents written verdicts.Whole)
-      (λ new. (old : Life) × IsQuiet (life_from given) old × HasVerified old new contents written verdicts.Refused)
-      (λ new why. (old : Life) × IsQuiet (life_from given) old × FailsToVerify old new why contents written)
+  -- `verify`: behind at most a listing of its files each of its recordings was verified, or the one that was asked for, and the
+  -- answers are written; damage is found where one is no reply
+  abbrev pub VerifiesFolder : Option ℤ → Option (List ℕ) → Option (List ℕ) → Option Life → Ending → Type 0
+  VerifiesFolder asked contents written = EndsAs
+      (λ new. (old : Life) × IsQuiet (life_from given) old × HasVerified asked old new contents written verdicts.Whole)
+      (λ new. (old : Life) × IsQuiet (life_from given) old × HasVerified asked old new contents written verdicts.Refused)
+      (λ new why. (old : Life) × IsQuiet (life_from given) old × FailsToVerify asked old new why contents written)
       contents written
 
   -- `create`: an archive without recordings was made, with this limit of its history, or was not; or the folder itself was not,
@@ -93,17 +94,18 @@ module _ (given : Given) where
 
 -- ---- scripts
 
-module _ (old : Life) (input contents written : Option (List ℕ)) where
+-- with checkpoints or without
+module _ (checkpoints : Bool) (old : Life) (input contents written : Option (List ℕ)) where
   -- the lines of the input were answered over the disk, whatever it did, and exactly where it obeys the crash model
   pub record HasRun (new : Life) : Type 0 where
-    pub whole : WritesText input contents written (IsScript old new)
-    pub kept : (first : Standing) (banks : Banks) → Begins old first banks → IsTrue new.obeys → WritesText input contents written (IsTranscript first banks old new)
+    pub whole : WritesText input contents written (IsScriptWhere checkpoints old new)
+    pub kept : (first : Standing) (banks : Banks) → Begins old first banks → IsTrue new.obeys → WritesText input contents written (IsTranscriptWhere checkpoints first banks old new)
 
   -- the first of them were, or the archive was not opened
   pub record HasRunFirst (new : Life) (end : EarlyEnd) : Type 0 where
-    pub early : EndsEarly end (IsScriptOfFirst old new) input contents written ⊎ IsUnopened old new contents written end
+    pub early : EndsEarly end (IsScriptOfFirstWhere checkpoints old new) input contents written ⊎ IsUnopened old new contents written end
     pub kept : (first : Standing) (banks : Banks) → Begins old first banks → IsTrue new.obeys →
-        EndsEarly end (IsTranscriptOfFirst first banks old new) input contents written ⊎ IsUnopened old new contents written end
+        EndsEarly end (IsTranscriptOfFirstWhere checkpoints first banks old new) input contents written ⊎ IsUnopened old new contents written end
 
   -- how a script over a disk ends: with the input's lines, or early
   abbrev pub RunsOver : Life → Ending → Type 0
@@ -112,20 +114,20 @@ module _ (old : Life) (input contents written : Option (List ℕ)) where
   RunsOver new ending = ⊥
 
 -- `run` over the archive of a folder with these files; or that was not opened, and then nothing is left and nothing is written
-abbrev pub RunsFolder : Given → Option (List ℕ) → Option (List ℕ) → Option (List ℕ) → Option Life → Ending → Type 0
-RunsFolder given input contents written (Some new) ending = RunsOver (life_from given) input contents written new ending
-RunsFolder given input contents written None (Unopened fault) = written ≡ contents
-RunsFolder given input contents written None ending = ⊥
+abbrev pub RunsFolder : Bool → Given → Option (List ℕ) → Option (List ℕ) → Option (List ℕ) → Option Life → Ending → Type 0
+RunsFolder checkpoints given input contents written (Some new) ending = RunsOver checkpoints (life_from given) input contents written new ending
+RunsFolder checkpoints given input contents written None (Unopened fault) = written ≡ contents
+RunsFolder checkpoints given input contents written None ending = ⊥
 
 -- `run` over an archive in memory, on a disk that had no file, and of which no call is made to fail; this is the disk at the end
-abbrev pub RunsOnDisk : SoundDisk → Option (List ℕ) → Option (List ℕ) → Option (List ℕ) → Ending → Type 0
-RunsOnDisk disk input contents written ending =
-    (first : Life) × IsFirstLife first × RunsOver first input contents written (sound_life disk) ending
+abbrev pub RunsOnDisk : Bool → SoundDisk → Option (List ℕ) → Option (List ℕ) → Option (List ℕ) → Ending → Type 0
+RunsOnDisk checkpoints disk input contents written ending =
+    (first : Life) × IsFirstLife first × RunsOver checkpoints first input contents written (sound_life disk) ending
 
 -- the same, whichever disk that is
-pub record RunsInMemory (input contents written : Option (List ℕ)) (ending : Ending) : Type 0 where
+pub record RunsInMemory (checkpoints : Bool) (input contents written : Option (List ℕ)) (ending : Ending) : Type 0 where
   pub disk : SoundDisk
-  pub runs : RunsOnDisk disk input contents written ending
+  pub runs : RunsOnDisk checkpoints disk input contents written ending
 
 -- ---- files
 

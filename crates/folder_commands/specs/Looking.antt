@@ -40,20 +40,22 @@ module _ (given : Given) where
       (λ new why. FailsToList itself (life_from given) new why contents written)
       contents written
 
-  -- `verify --read-only`: behind at most a listing of its files each of its recordings was verified, and the answers are written
-  abbrev pub VerifiesAsItStands : Option (List ℕ) → Option (List ℕ) → Option Life → Ending → Type 0
-  VerifiesAsItStands contents written = EndsAs
-      (λ new. (old : Life) × IsQuiet (life_from given) old × HasVerified itself old new contents written verdicts.Whole)
-      (λ new. (old : Life) × IsQuiet (life_from given) old × HasVerified itself old new contents written verdicts.Refused)
-      (λ new why. (old : Life) × IsQuiet (life_from given) old × FailsToVerify itself old new why contents written)
+  -- `verify --read-only`: behind at most a listing of its files each of its recordings was verified, or the one that was asked for,
+  -- and the answers are written
+  abbrev pub VerifiesAsItStands : Option ℤ → Option (List ℕ) → Option (List ℕ) → Option Life → Ending → Type 0
+  VerifiesAsItStands asked contents written = EndsAs
+      (λ new. (old : Life) × IsQuiet (life_from given) old × HasVerified itself asked old new contents written verdicts.Whole)
+      (λ new. (old : Life) × IsQuiet (life_from given) old × HasVerified itself asked old new contents written verdicts.Refused)
+      (λ new why. (old : Life) × IsQuiet (life_from given) old × FailsToVerify itself asked old new why contents written)
       contents written
 
-  -- `describe`: the archive of these files was seen, and the page on it is written, or the document with `--json`
-  abbrev pub DescribesFolder : Bool → Option (List ℕ) → Option (List ℕ) → Option Life → Ending → Type 0
-  DescribesFolder json contents written = EndsAs
-      (λ new. HasDescribed (life_from given) new (form_of json) contents written)
+  -- `describe`: the archive of these files was seen, and the page on it, or on the recording that was asked for, is written, or the
+  -- document with `--json`
+  abbrev pub DescribesFolder : Option ℤ → Bool → Option (List ℕ) → Option (List ℕ) → Option Life → Ending → Type 0
+  DescribesFolder asked json contents written = EndsAs
+      (λ new. HasDescribed asked (life_from given) new (form_of json) contents written)
       (λ new. ⊥)
-      (λ new why. FailsToDescribe itself (life_from given) new why contents written)
+      (λ new why. FailsToDescribe itself asked (life_from given) new why contents written)
       contents written
 
 -- a capture file is not written: its place is in the archive's folder, a call of the system failed, or there is no memory

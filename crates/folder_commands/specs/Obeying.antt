@@ -17,15 +17,15 @@ module _ (given : Given) (input contents written : Option (List ℕ)) (looked : 
   -- looked at and left unopened for what it saw.
   abbrev pub Obeys : ToolCommand → Option Life → Ending → Type 0
   Obeys (Create folder history) left ending = MakesArchive given history contents written left ending
-  Obeys (Run None) left ending = RunsInMemory input contents written ending × (left ≡ None)
-  Obeys (Run (Some folder)) left ending = RunsFolder given input contents written left ending
+  Obeys (Run None checkpoints wait) left ending = RunsInMemory checkpoints input contents written ending × (left ≡ None)
+  Obeys (Run (Some folder) checkpoints wait) left ending = RunsFolder checkpoints given input contents written left ending
   Obeys (Serve words) left ending = ServesFolder given words looked left ending × (written ≡ contents)
-  Obeys (Compact folder) left ending = CompactsFolder given contents written left ending
-  Obeys (AskList folder false) left ending = ListsFolder given contents written left ending
-  Obeys (AskList folder true) left ending = ListsAsItStands given contents written left ending
-  Obeys (Verify folder false) left ending = VerifiesFolder given contents written left ending
-  Obeys (Verify folder true) left ending = VerifiesAsItStands given contents written left ending
-  Obeys (Describe folder json) left ending = DescribesFolder given json contents written left ending
+  Obeys (Compact folder wait) left ending = CompactsFolder given contents written left ending
+  Obeys (AskList folder false wait) left ending = ListsFolder given contents written left ending
+  Obeys (AskList folder true wait) left ending = ListsAsItStands given contents written left ending
+  Obeys (Verify folder recording false wait) left ending = VerifiesFolder given recording contents written left ending
+  Obeys (Verify folder recording true wait) left ending = VerifiesAsItStands given recording contents written left ending
+  Obeys (Describe folder recording json) left ending = DescribesFolder given recording json contents written left ending
   Obeys (Export folder recording from to pcap) left ending =
       ExportsFolder given recording (record { from = from; to = to }) contents written left ending
   Obeys (Frames file) left ending = ListsFile contents written ending × (left ≡ None)

@@ -1,23 +1,29 @@
 -- What `serve` does over the archive of a folder, and how it ends: docs/SERVING.md.
-use Rattle.std.specs.Prelude.{◌≡◌, ◌⊎◌, ◌<◌, ◌≤◌, ◌%◌, ℕ, ℤ, pos, Bool, true, false, List, [], ◌∷◌, length, IsTrue, IsSomeAnd, Option, None, Some, is_some}
+use Rattle.std.specs.Prelude.{◌≡◌, ◌⊎◌, ◌<◌, ◌≤◌, ◌%◌, ◌&&◌, ◌||◌, ◌==◌, ℕ, ℤ, pos, Bool, true, false, List, [], ◌∷◌, length, IfSome, IsTrue, IsSomeAnd, nat_le, nat_lt, Option, None, Some, is_some}
+use Rattle.std.specs.Borrow.{Bor}
 use Rattle.std.specs.Int.{is_power_of_two}
+use Rattle.std.specs.List.{list_all}
 use Rattle.std.specs.Net.Addr.{IsMulticastV4}
 use Rattle.std.specs.Net.Grammar.{IsIpv4Text}
 use Rattle.std.specs.declared.net.ipv4_addr.Ipv4Addr.{Ipv4Addr}
 use Rattle.clap.specs.declared.error.ErrorKind.TheVariants.{ValueValidation}
-use Rattle.disk_core.specs.Life.{Life}
+use Rattle.frame_core.specs.declared.refusal.Refusal.TheVariants.{DeviceFault, NotCatalogue}
+use Rattle.disk_core.specs.declared.file_id.FileId.{FileId}
+use Rattle.disk_core.specs.declared.file_id.FileId.TheVariants.{BankA, BankB}
+use Rattle.disk_core.specs.DiskImage.{DiskImage, bytes_of, reads}
+use Rattle.disk_core.specs.Life.{IsQuiet, Life}
 use Rattle.host_disk.specs.Events.{Given}
 use Rattle.host_disk.specs.Replay.{life_from}
 use Rattle.command_line.specs.declared.serving.ServeWords.{ServeWords}
 use Rattle.command_line.specs.declared.usage.UsageError.{UsageError}
-use Rattle.command_line.specs.declared.usage.UsageError.TheVariants.{Address, Multicast, Window, NeedsAeron, RecordNeedsAeron, Streams, NeedsRecord, SegmentLength}
+use Rattle.command_line.specs.declared.usage.UsageError.TheVariants.{Window, NeedsAeron, RecordNeedsAeron, Streams, NeedsRecord, SegmentLength, Checkpoints, NoCheckpointsNeedsAeron}
 use Rattle.server.specs.declared.options.ServeOptions.{ServeOptions}
 use Rattle.server.specs.Serving.{IsServedAs, IsServedUpTo}
 use Rattle.folder_commands.specs.declared.why.Why.{Why}
 use Rattle.folder_commands.specs.declared.why.Why.TheVariants.{Usage}
 use Rattle.folder_commands.specs.declared.status.Ending.{Ending}
 use Rattle.folder_commands.specs.Hidden.{MayHideEntries}
-use Rattle.folder_commands.specs.declared.status.Ending.TheVariants.{Done, Cut, Stuck, Hidden, Unopened, NoCommand, Failed}
+use Rattle.folder_commands.specs.declared.status.Ending.TheVariants.{Done, Cut, Refused, Stuck, Hidden, Unopened, NoCommand, Failed}
 
 -- ---- the words
 
@@ -25,11 +31,19 @@ use Rattle.folder_commands.specs.declared.status.Ending.TheVariants.{Done, Cut, 
 abbrev pub IsNoAddress : List ℕ → Type 0
 IsNoAddress text = (address : Ipv4Addr) → IsIpv4Text text address → IsMulticastV4 address
 
--- what is wrong with it
-abbrev pub IsAddressReason : List ℕ → Why → Type 0
-IsAddressReason text (Usage Address) = (address : Ipv4Addr) → IsIpv4Text text address → ⊥
-IsAddressReason text (Usage Multicast) = (address : Ipv4Addr) × IsIpv4Text text address × IsMulticastV4 address
-IsAddressReason text why = ⊥
+-- what is wrong with it: the first reason if it is none, the second if it is a multicast address
+abbrev pub IsAddressReason : UsageError → UsageError → List ℕ → Why → Type 0
+IsAddressReason none multicast text why =
+    ((why ≡ Usage none) × ((address : Ipv4Addr) → IsIpv4Text text address → ⊥))
+    ⊎ ((why ≡ Usage multicast) × ((address : Ipv4Addr) × IsIpv4Text text address × IsMulticastV4 address))
+
+-- what `--consumers` and `--consumers-on` (each given or not) say of a port of consumers is wrong: an address comes without a port, or
+-- it is no address of one machine, or there is no such port
+abbrev pub IsNoConsumersEnd : Option ℕ → Option (Bor (List ℕ)) → Type 0
+IsNoConsumersEnd None None = ⊥
+IsNoConsumersEnd None (Some address) = Unit {0}
+IsNoConsumersEnd (Some port) None = 65535 < port
+IsNoConsumersEnd (Some port) (Some address) = IsNoAddress address.now ⊎ (65535 < port)
 
 -- a receiver window that a server can have, in bytes: a multiple of 32, from 4,096 to 1,048,576
 abbrev pub IsReceiverWindow : ℕ → Type 0
@@ -59,7 +73,31 @@ AsksForSegments streams None bytes = bytes ≡ pos 134217728
 AsksForSegments [] (Some asked) bytes = ⊥
 AsksForSegments (stream ∷ streams) (Some asked) bytes = IsSegmentLength asked × (bytes ≡ pos asked)
 
+-- checkpoints are made with `--aeron` but not with `--no-checkpoints`, and without it with `--checkpoints`; `--no-checkpoints` goes
+-- with `--aeron` alone, and not with `--checkpoints`
+abbrev pub AsksForCheckpoints : Bool → Bool → Bool → Bool → Type 0
+AsksForCheckpoints is_aeron asks false makes = makes ≡ (asks || is_aeron)
+AsksForCheckpoints true false true makes = makes ≡ false
+AsksForCheckpoints is_aeron asks true makes = ⊥
+
+-- a letter or a digit of ASCII, `_`, `.` or `-`
+abbrev pub is_name_byte : ℕ → Bool
+is_name_byte b =
+    (nat_le 48 b && nat_le b 57) || ((nat_le 65 b && nat_le b 90) || ((nat_le 97 b && nat_le b 122) || ((b == 95) || ((b == 46) || (b == 45)))))
+
+-- a name of a recorder: 1 to 64 of these
+abbrev pub is_recorder_name : List ℕ → Bool
+is_recorder_name text = nat_le 1 (length text) && (nat_le (length text) 64 && list_all is_name_byte text)
+
 module _ (words : ServeWords) where
+  -- the name that the words give, if they give one, is one of a recorder
+  abbrev pub HasName : Type 0
+  HasName = IfSome words.name (λ text. IsTrue (is_recorder_name text.now))
+
+  -- it is not
+  abbrev pub HasBadName : Type 0
+  HasBadName = HasName → ⊥
+
   -- the words ask for this receiver window, or for none
   abbrev pub HasWindow : Option ℤ → Type 0
   HasWindow window = AsksForWindow words.is_aeron words.window window
@@ -84,9 +122,13 @@ module _ (words : ServeWords) where
   abbrev pub HasBadSegments : Type 0
   HasBadSegments = (bytes : ℤ) → HasSegments bytes → ⊥
 
-  -- what they say of a receiver window, of streams or of segments is wrong
+  -- what they say of checkpoints is wrong
+  abbrev pub HasBadCheckpoints : Type 0
+  HasBadCheckpoints = (makes : Bool) → AsksForCheckpoints words.is_aeron words.checkpoints words.no_checkpoints makes → ⊥
+
+  -- what they say of a receiver window, of streams, of segments, of checkpoints or of a name is wrong
   abbrev pub HasBadOptions : Type 0
-  HasBadOptions = HasBadWindow ⊎ HasBadStreams ⊎ HasBadSegments
+  HasBadOptions = HasBadWindow ⊎ HasBadStreams ⊎ HasBadSegments ⊎ HasBadCheckpoints ⊎ HasBadName
 
   -- the options of a server are those of the words, with this receiver's number
   pub record AreOptions (receiver : ℤ) (options : ServeOptions) : Type 0 where
@@ -100,20 +142,21 @@ module _ (words : ServeWords) where
     pub segments : HasSegments options.segment_length
     pub strict : options.is_strict ≡ words.is_strict
     pub measured : options.is_measured ≡ is_some words.metrics
+    pub checkpoints : AsksForCheckpoints words.is_aeron words.checkpoints words.no_checkpoints options.makes_checkpoints
+    pub begins : options.begins_short ≡ options.makes_checkpoints
+    pub named : HasName
+
+  -- what they say of a port of consumers is wrong
+  abbrev pub HasNoConsumersEnd : Type 0
+  HasNoConsumersEnd = IsNoConsumersEnd words.consumers words.consumers_on
 
   -- the words name no address, or no ports
   abbrev pub HasNoEnds : Type 0
-  HasNoEnds = IsNoAddress words.receive_on.now ⊎ (65535 < words.control) ⊎ (65535 < words.receive)
+  HasNoEnds = IsNoAddress words.receive_on.now ⊎ (65535 < words.control) ⊎ (65535 < words.receive) ⊎ HasNoConsumersEnd
 
   -- they are wrong: a usage error
   abbrev pub AreWrong : Type 0
   AreWrong = HasNoEnds ⊎ HasBadOptions
-
-  -- why the ports of a server are not bound: the words name none, or the system refuses one
-  abbrev pub IsUnbound : Ending → Type 0
-  IsUnbound (NoCommand kind) = (kind ≡ ValueValidation) × HasNoEnds
-  IsUnbound (Failed fault) = HasNoEnds → ⊥
-  IsUnbound ending = ⊥
 
 -- what is wrong with the words of a bad receiver window
 abbrev pub window_reason : Bool → UsageError
@@ -130,6 +173,44 @@ abbrev pub segment_reason : List ℤ → UsageError
 segment_reason [] = NeedsRecord
 segment_reason (stream ∷ streams) = SegmentLength
 
+-- and of bad words on checkpoints
+abbrev pub checkpoints_reason : Bool → UsageError
+checkpoints_reason true = Checkpoints
+checkpoints_reason false = NoCheckpointsNeedsAeron
+
+-- ---- the folder
+
+-- a port of a server is not bound: the system refuses it
+abbrev pub IsUnbound : Ending → Type 0
+IsUnbound (Failed fault) = Unit {0}
+IsUnbound ending = ⊥
+
+-- a file of an image has bytes
+abbrev pub has_bytes : FileId → DiskImage → Bool
+has_bytes file image = nat_lt 0 (length (bytes_of (image file)))
+
+-- an image has a catalogue: one of its banks has bytes
+abbrev pub has_catalogue : DiskImage → Bool
+has_catalogue image = has_bytes BankA image || has_bytes BankB image
+
+-- a disk was looked at, up to this life, and has a catalogue, if it obeys the crash model
+abbrev pub HasCatalogue : Life → Life → Type 0
+HasCatalogue old new = IsTrue new.obeys → has_catalogue (reads old.now) ≡ true
+
+-- it has none, or a call of the disk failed
+abbrev pub LacksCatalogue : Life → Life → Ending → Type 0
+LacksCatalogue old new (Refused NotCatalogue) = IsTrue new.obeys → has_catalogue (reads old.now) ≡ false
+LacksCatalogue old new (Refused DeviceFault) = Unit {0}
+LacksCatalogue old new ending = ⊥
+
+-- a server that asks for a catalogue ended so, and left a disk without one, which was at most looked at
+pub record LeavesUncatalogued (asked : Bool) (old : Life) (left : Option Life) (ending : Ending) : Type 0 where
+  pub must : IsTrue asked
+  pub new : Life
+  pub quiet : IsQuiet old new
+  pub lacks : LacksCatalogue old new ending
+  pub is : left ≡ Some new
+
 -- ---- the server
 
 -- How a server over a disk ends, a strict one or one that is not, and what it leaves: by a line that quits, or early. A strict one
@@ -140,14 +221,19 @@ ServesOver strict old new (Stuck stop) = IsServedAs strict old new (Some stop)
 ServesOver strict old new (Cut end) = IsServedUpTo old new end
 ServesOver strict old new ending = ⊥
 
--- `serve` over the archive of a folder with these files. If its words are wrong, it ends by that, and then alone; else a port
--- is not bound, or the folder is not opened, and nothing is left; or it is served. Or a strict server looked at the folder, up to this
--- life, and its catalogue may hide entries: then the archive is not opened, and the folder is left as it was.
+-- `serve` over the archive of a folder with these files. If its words are wrong, it ends by that, and then alone; else the folder
+-- is not opened, and nothing is left; or a port is not bound, and the folder is left as it was; or it is served, and with
+-- `--no-create` it has a catalogue then. Or it has none, and was at most looked at. Or a strict server looked at the folder, up to
+-- this life, and its catalogue may hide entries: then the archive is not opened, and the folder is left as it was.
 abbrev pub ServesFolder : Given → ServeWords → Option Life → Option Life → Ending → Type 0
 ServesFolder given words looked None (NoCommand kind) = (kind ≡ ValueValidation) × AreWrong words
-ServesFolder given words looked None (Failed fault) = AreWrong words → ⊥
 ServesFolder given words looked None (Unopened fault) = AreWrong words → ⊥
 ServesFolder given words looked None ending = ⊥
 ServesFolder given words looked (Some new) Hidden =
     (AreWrong words → ⊥) × IsTrue words.is_strict × IsSomeAnd looked (MayHideEntries given) × (new ≡ life_from given)
-ServesFolder given words looked (Some new) ending = (AreWrong words → ⊥) × ServesOver words.is_strict (life_from given) new ending
+ServesFolder given words looked (Some new) (Failed fault) = (AreWrong words → ⊥) × (new ≡ life_from given)
+ServesFolder given words looked (Some new) (Refused refusal) =
+    (AreWrong words → ⊥) × IsTrue words.no_create × IsQuiet (life_from given) new × LacksCatalogue (life_from given) new (Refused refusal)
+ServesFolder given words looked (Some new) ending =
+    (AreWrong words → ⊥) × (old : Life) × IsQuiet (life_from given) old × (IsTrue words.no_create → HasCatalogue (life_from given) old)
+    × ServesOver words.is_strict old new ending

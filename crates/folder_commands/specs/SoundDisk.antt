@@ -1,5 +1,5 @@
 -- The disk in memory over which `run` without a folder answers its lines: docs/CONTROL.md, "Scripts".
-use Rattle.std.specs.Prelude.{◌≡◌, List, [], None, IsTrue}
+use Rattle.std.specs.Prelude.{◌≡◌, [], None, IsTrue}
 use Rattle.disk_core.specs.DiskImage.{begun}
 use Rattle.disk_core.specs.Life.{Life}
 use Rattle.disk_core.specs.MemoryDisk.{life_of}

@@ -4,7 +4,8 @@ ghost use Rattle.std.specs.Prelude.{◌≡◌, IfErr, IfOk, Some, true, false};
 ghost use Rattle.host_disk.specs.Events.{Given};
 ghost use Rattle.host_disk.specs.HostDisk.{host_life};
 ghost use Rattle.host_disk.specs.Replay.{life_from};
-ghost use Rattle.folder_commands.specs.Folders.{CompactsFolder, IsUnopenedFolder, ListsFile, ListsFolder, ListsFrames, MakesArchive, RunsFolder, RunsInMemory, RunsOnDisk, RunsOver, ending_in};
+ghost use Rattle.tool_core.specs.Archives.{disk_of, early_end_of};
+ghost use Rattle.folder_commands.specs.Folders.{CompactsFolder, HasRun, HasRunFirst, IsUnopenedFolder, ListsFile, ListsFolder, ListsFrames, MakesArchive, RunsFolder, RunsInMemory, RunsOnDisk, RunsOver, ending_in};
 ghost use Rattle.folder_commands.specs.Left.{ends_with, leaves, left_life, sees};
 ghost use Rattle.folder_commands.specs.Looking.{ListsAsItStands};
 ghost use Rattle.folder_commands.specs.Obeying.{HasObeyed, Obeys};
@@ -22,6 +23,7 @@ use crate::serving::serve;
 use crate::sound_disk::SoundDisk;
 use crate::status::Ending;
 use crate::verifying::verify;
+use crate::waiting::disk_within;
 use crate::why::Why;
 use archive_commands::{
     CommandFault, Listing, OpeningProgress, Screen, Stage, Stop, Watched, compact_archive,
@@ -41,7 +43,7 @@ use std::path::Path;
 use std::rt::Clock;
 use std::sync::Wait;
 use std::thread::Threads;
-use tool_core::{Observer, run_script};
+use tool_core::{Observer, ScriptFault, run_checkpointed_script, run_script};
 
 /// Does what a command asks for, hands on what it writes, and answers how that ended, and what it left of its folder. The control
 /// lines of `run` come from an input. Threads and sockets of `serve` are made by the handle, folders and files opened by the
@@ -82,18 +84,36 @@ fn obey<
     match command {
         ToolCommand::Serve(words) => serve(net, rt, words),
         ToolCommand::Create { folder, history } => create(rt, Path::new(folder), *history, writer),
-        ToolCommand::Compact { folder } => compact(rt, Path::new(folder), writer),
-        ToolCommand::Run { folder: None } => {
-            Outcome::leaving(run_without_folder(rt, input, writer), None)
-        }
+        ToolCommand::Compact { folder, wait } => compact(rt, Path::new(folder), *wait, writer),
+        ToolCommand::Run {
+            folder: None,
+            checkpoints,
+            ..
+        } => Outcome::leaving(run_without_folder(rt, *checkpoints, input, writer), None),
         ToolCommand::Run {
             folder: Some(folder),
-        } => run(rt, Path::new(folder), input, writer),
-        ToolCommand::List { folder, read_only } => list(rt, Path::new(folder), *read_only, writer),
-        ToolCommand::Verify { folder, read_only } => {
-            verify(rt, Path::new(folder), *read_only, writer)
+            checkpoints,
+            wait,
+        } => run(rt, Path::new(folder), *checkpoints, *wait, input, writer),
+        ToolCommand::List {
+            folder,
+            read_only,
+            wait,
+        } => list(rt, Path::new(folder), *read_only, *wait, writer),
+        ToolCommand::Verify {
+            folder,
+            recording,
+            read_only,
+            wait,
+        } => {
+            let folder = Path::new(folder);
+            verify(rt, folder, *recording, *read_only, *wait, writer)
         }
-        ToolCommand::Describe { folder, json } => describe(rt, Path::new(folder), *json, writer),
+        ToolCommand::Describe {
+            folder,
+            recording,
+            json,
+        } => describe(rt, Path::new(folder), *recording, *json, writer),
         ToolCommand::Export {
             folder,
             recording,
@@ -179,14 +199,16 @@ pub(crate) fn sync_name(rt: HostRuntime, folder: &str) -> io::Result<()> {
 /// Answers the control lines of an input, over an archive in memory. Its disk comes back.
 fn run_in_memory<I: Read + Drop, W: Write>(
     rt: HostRuntime,
+    checkpoints: bool,
     input: I,
     writer: &mut W,
 ) -> (SoundDisk, Result<(), Exit>)
-    ensures { RunsOnDisk result.0 (I.remaining input) (W.contents writer.old) (W.contents writer.new) (ending_in result.1) }
+    ensures { RunsOnDisk checkpoints result.0 (I.remaining input) (W.contents writer.old) (W.contents writer.new) (ending_in result.1) }
 {
     let screen = Screen::new(&rt);
     run_over(
         rt.alloc(),
+        checkpoints,
         input,
         writer,
         SoundDisk::new(rt.alloc()),
@@ -197,12 +219,13 @@ fn run_in_memory<I: Read + Drop, W: Write>(
 /// The same, whose disk goes.
 fn run_without_folder<I: Read + Drop, W: Write>(
     rt: HostRuntime,
+    checkpoints: bool,
     input: I,
     writer: &mut W,
 ) -> Result<(), Exit>
-    ensures { RunsInMemory (I.remaining input) (W.contents writer.old) (W.contents writer.new) (ending_in result) }
+    ensures { RunsInMemory checkpoints (I.remaining input) (W.contents writer.old) (W.contents writer.new) (ending_in result) }
 {
-    let (_, done) = run_in_memory(rt, input, writer);
+    let (_, done) = run_in_memory(rt, checkpoints, input, writer);
     done
 }
 
@@ -211,19 +234,22 @@ fn run_without_folder<I: Read + Drop, W: Write>(
 fn run<I: Read + Drop, W: Write>(
     rt: HostRuntime,
     folder: Path<'_>,
+    checkpoints: bool,
+    wait: Option<u32>,
     input: I,
     writer: &mut W,
 ) -> Result<Left, Outcome>
     ghost given: { Given }
-    ensures { RunsFolder given (I.remaining input) (W.contents writer.old) (W.contents writer.new) (leaves result) (ends_with result) }
+    ensures { RunsFolder checkpoints given (I.remaining input) (W.contents writer.old) (W.contents writer.new) (leaves result) (ends_with result) }
 {
     let screen = Screen::new(&rt);
     let faults = FaultReporter::new(rt.alloc(), &screen, Stage::Opening);
     let viewer = (faults, opening_of(&rt, &screen));
-    let disk = Watched::new(disk_of(rt, folder)?, viewer);
+    let disk = Watched::new(disk_within(rt, folder, wait)?, viewer);
     let _ = warns_of_hidden(rt, folder, &screen);
     let (disk, done) = run_over(
         rt.alloc(),
+        checkpoints,
         input,
         writer,
         disk,
@@ -235,14 +261,15 @@ fn run<I: Read + Drop, W: Write>(
 /// Answers the control lines of an input, over the archive of a disk, which comes back.
 fn run_over<I: Read + Drop, W: Write, D: Disk, O: Observer>(
     alloc: Global,
+    checkpoints: bool,
     input: I,
     writer: &mut W,
     disk: D,
     observer: &mut O,
 ) -> (D, Result<(), Exit>)
-    ensures { RunsOver (D.life disk) (I.remaining input) (W.contents writer.old) (W.contents writer.new) (D.life result.0) (ending_in result.1) }
+    ensures { RunsOver checkpoints (D.life disk) (I.remaining input) (W.contents writer.old) (W.contents writer.new) (D.life result.0) (ending_in result.1) }
 {
-    match run_script(alloc, input, writer, disk, observer) {
+    match script_of(alloc, checkpoints, input, writer, disk, observer) {
         Ok(disk) => (disk, Ok(())),
         Err(fault) => {
             let (disk, exit) = Exit::cut_off(fault, Why::Input);
@@ -251,13 +278,40 @@ fn run_over<I: Read + Drop, W: Write, D: Disk, O: Observer>(
     }
 }
 
+/// Answers the control lines of an input, with checkpoints or without.
+fn script_of<I: Read + Drop, W: Write, D: Disk, O: Observer>(
+    alloc: Global,
+    checkpoints: bool,
+    input: I,
+    writer: &mut W,
+    disk: D,
+    observer: &mut O,
+) -> Result<D, ScriptFault<D>>
+    ensures done { IfOk result (λ back.
+        HasRun checkpoints (D.life disk) (I.remaining input) (W.contents writer.old) (W.contents writer.new) (D.life back)) }
+    ensures early { IfErr result (λ fault.
+        HasRunFirst checkpoints (D.life disk) (I.remaining input) (W.contents writer.old) (W.contents writer.new)
+        (D.life (disk_of fault)) (early_end_of fault)) }
+{
+    if checkpoints {
+        run_checkpointed_script(alloc, input, writer, disk, observer)
+    } else {
+        run_script(alloc, input, writer, disk, observer)
+    }
+}
+
 /// Writes the catalogue of the archive in a folder anew.
-fn compact<W: Write>(rt: HostRuntime, folder: Path<'_>, writer: &mut W) -> Result<Left, Outcome>
+fn compact<W: Write>(
+    rt: HostRuntime,
+    folder: Path<'_>,
+    wait: Option<u32>,
+    writer: &mut W,
+) -> Result<Left, Outcome>
     ghost given: { Given }
     ensures { CompactsFolder given (W.contents writer.old) (W.contents writer.new) (leaves result) (ends_with result) }
 {
     let screen = Screen::new(&rt);
-    let disk = watched_disk(&rt, folder, &screen)?;
+    let disk = watched_disk(&rt, folder, wait, &screen)?;
     match compact_archive(rt.alloc(), disk, writer, &mut OpeningReporter::new(&screen)) {
         Ok(compacted) => Ok(closed(compacted)),
         Err(fault) => Err(uncompacted(fault)),
@@ -287,6 +341,7 @@ fn list<W: Write>(
     rt: HostRuntime,
     folder: Path<'_>,
     read_only: bool,
+    wait: Option<u32>,
     writer: &mut W,
 ) -> Result<Left, Outcome>
     ghost given: { Given }
@@ -298,17 +353,22 @@ fn list<W: Write>(
     if read_only {
         list_read_only(rt, folder, writer)
     } else {
-        list_opened(rt, folder, writer)
+        list_opened(rt, folder, wait, writer)
     }
 }
 
 /// Writes the recordings of the archive in a folder.
-fn list_opened<W: Write>(rt: HostRuntime, folder: Path<'_>, writer: &mut W) -> Result<Left, Outcome>
+fn list_opened<W: Write>(
+    rt: HostRuntime,
+    folder: Path<'_>,
+    wait: Option<u32>,
+    writer: &mut W,
+) -> Result<Left, Outcome>
     ghost given: { Given }
     ensures { ListsFolder given (W.contents writer.old) (W.contents writer.new) (leaves result) (ends_with result) }
 {
     let screen = Screen::new(&rt);
-    let disk = watched_disk(&rt, folder, &screen)?;
+    let disk = watched_disk(&rt, folder, wait, &screen)?;
     match list_archive(rt.alloc(), disk, writer, &mut OpeningReporter::new(&screen)) {
         Ok(disk) => Ok(closed(disk)),
         Err(fault) => Err(stopped(fault)),
@@ -343,19 +403,20 @@ fn frames_of<F: Read + Drop, W: Write>(alloc: Global, reader: F, writer: &mut W)
 fn watched_disk<'a>(
     rt: &'a HostRuntime,
     folder: Path<'_>,
+    wait: Option<u32>,
     screen: &'a Screen<'a, HostRuntime>,
 ) -> Result<Watched<HostDisk, Option<OpeningProgress<'a, HostRuntime>>>, Exit>
     ghost given: { Given }
     ensures begun { IfOk result (λ watched. host_life watched.disk ≡ life_from given) }
     ensures unopened { IfErr result (λ exit. IsUnopenedFolder exit.ending) }
 {
-    let disk = Watched::new(disk_of(*rt, folder)?, opening_of(rt, screen));
+    let disk = Watched::new(disk_within(*rt, folder, wait)?, opening_of(rt, screen));
     let _ = warns_of_hidden(*rt, folder, screen);
     Ok(disk)
 }
 
 /// The disk of a folder, which no other process has. It begins with the files that the folder holds.
-pub(crate) fn disk_of(rt: HostRuntime, folder: Path<'_>) -> Result<HostDisk, Exit>
+fn disk_of(rt: HostRuntime, folder: Path<'_>) -> Result<HostDisk, Exit>
     ghost given: { Given }
     ensures begun { IfOk result (λ disk. host_life disk ≡ life_from given) }
     ensures unopened { IfErr result (λ exit. IsUnopenedFolder exit.ending) }

@@ -5,6 +5,7 @@ ghost use Rattle.host_disk.specs.ClosedDisk.{closed_life};
 ghost use Rattle.host_disk.specs.Events.{Given};
 ghost use Rattle.folder_commands.specs.Hidden.{MayHideEntries};
 
+use crate::log::{Level, Log};
 use archive_commands::Screen;
 use archive_view::{ArchiveView, ReadOnly};
 use catalogue_log::Bank;
@@ -12,6 +13,7 @@ use host_disk::{ClosedDisk, ReadFolder};
 use std::fmt;
 use std::io::Eprint;
 use std::path::Path;
+use std::rt::Clock;
 
 /// The bank behind whose closed gate entries may be hidden, and where the gate stands in its file.
 #[derive(Clone, Copy)]
@@ -50,6 +52,20 @@ pub(crate) fn warns_of_hidden<R: Eprint>(
 {
     let HidingFolder { place, looked } = hidden_place(rt, folder)?;
     screen.report(place);
+    Some(looked)
+}
+
+/// The same of a server's folder, by one of the server's lines.
+pub(crate) fn warns_of_hidden_by<R: Eprint + Clock>(
+    rt: HostRuntime,
+    folder: Path<'_>,
+    log: &Log<'_, R>,
+) -> Option<ClosedDisk>
+    ghost given: { Given }
+    ensures { IfSome result (λ looked. MayHideEntries given (closed_life looked)) }
+{
+    let HidingFolder { place, looked } = hidden_place(rt, folder)?;
+    log.print(Level::Error, place);
     Some(looked)
 }
 

@@ -7,7 +7,9 @@ mod capture;
 mod commands;
 mod concluding;
 mod exit;
+mod flushing;
 mod hidden;
+mod log;
 mod looking;
 mod observers;
 mod open_folder;
@@ -19,6 +21,7 @@ mod sound_disk;
 mod status;
 mod usage;
 mod verifying;
+mod waiting;
 mod why;
 
 pub use answering::{answered, no_command};

@@ -37,23 +37,24 @@ pub(crate) fn list_read_only<W: Write>(
     }
 }
 
-/// Writes what is known of the archive in a folder as it stands, as a page or as JSON. It is reported on standard error if its
-/// catalogue may hide entries, before and after that.
+/// Writes what is known of the archive in a folder as it stands, or of one recording alone, as a page or as JSON. It is reported on
+/// standard error if its catalogue may hide entries, before and after that.
 pub(crate) fn describe<W: Write>(
     rt: HostRuntime,
     folder: Path<'_>,
+    recording: Option<i64>,
     json: bool,
     writer: &mut W,
 ) -> Result<Left, Outcome>
     ghost given: { Given }
-    ensures { DescribesFolder given json (W.contents writer.old) (W.contents writer.new) (leaves result) (ends_with result) }
+    ensures { DescribesFolder given recording json (W.contents writer.old) (W.contents writer.new) (leaves result) (ends_with result) }
 {
     let form = form_of(json);
     let screen = Screen::new(&rt);
     let disk = Watched::new(folder_of(rt, folder)?, opening_of(&rt, &screen));
     let hidden = hidden_place(rt, folder);
     let mut reporter = OpeningReporter::new(&screen);
-    match describe_archive(rt.alloc(), disk, form, writer, &mut reporter) {
+    match describe_archive(rt.alloc(), disk, recording, form, writer, &mut reporter) {
         Ok(disk) => {
             if let Some(found) = still_hidden_place(rt, folder, hidden) {
                 screen.report(found.place);

@@ -12,7 +12,7 @@ use host_disk::LastFault;
 use start_faults::{StartWord, wrong_word};
 use std::alloc::Global;
 use std::io::Eprint;
-use tool_core::{Beginning, HistoryUse, Observer};
+use tool_core::{Beginning, CheckpointOutcome, HistoryUse, Observer};
 
 /// Reports each call of a folder that fails, once for each file and cause.
 #[derive(Drop)]
@@ -123,7 +123,8 @@ fn word_of_line(alloc: Global, line: &[u8]) -> Option<StartWord> {
     }
 }
 
-/// Reports how a script's archive began, that its history fills up, that it is full, and which word of a start is wrong.
+/// Reports how a script's archive began, that its history fills up, that it is full, what became of checkpoints, and which word of
+/// a start is wrong.
 #[derive(Drop)]
 pub(crate) struct ScriptReporter<'a, R> {
     screen: &'a Screen<'a, R>,
@@ -131,6 +132,8 @@ pub(crate) struct ScriptReporter<'a, R> {
     /// The hundredths of the history's limit that were reported last.
     reported_level: u8,
     has_reported_full: bool,
+    /// Why checkpoints were refused, as it was reported.
+    reported_causes: Vec<Refusal>,
 }
 
 impl<'a, R: Eprint> ScriptReporter<'a, R> {
@@ -140,6 +143,7 @@ impl<'a, R: Eprint> ScriptReporter<'a, R> {
             starts: StartReporter::new(alloc, screen),
             reported_level: 0,
             has_reported_full: false,
+            reported_causes: Vec::new(alloc),
         }
     }
 }
@@ -171,6 +175,24 @@ impl<R: Eprint> Observer for ScriptReporter<'_, R> {
                 );
             }
         }
+    }
+
+    /// Warnings come again after a checkpoint that was made. Each cause of a refusal is reported once.
+    fn checkpointed(&mut self, outcome: &CheckpointOutcome) {
+        match outcome {
+            CheckpointOutcome::Made { .. } => {
+                self.reported_level = 0;
+                self.has_reported_full = false;
+            }
+            CheckpointOutcome::Refused(cause) => {
+                if self.reported_causes.contains(cause) {
+                    return;
+                }
+                // Where there is no memory for it, it may be reported again.
+                let _ = self.reported_causes.push(*cause);
+            }
+        }
+        self.screen.report(*outcome);
     }
 
     fn used(&mut self, history: &HistoryUse) {

@@ -1,33 +1,45 @@
 //! The command `serve`: its words, its ports, and the archive of its folder. docs/SERVING.md, "How to run it".
 
-ghost use Rattle.std.specs.Prelude.{◌≡◌, ◌≤◌, ◌<◌, ◌↔◌, IfErr, IfOk, IsTrue, MatchResult};
+ghost use Rattle.std.specs.List.{list_all};
+ghost use Rattle.std.specs.Prelude.{◌≡◌, ◌&&◌, ◌≤◌, ◌<◌, ◌↔◌, None, Some, IfErr, IfOk, IfSome, IsSomeAnd, IsTrue, MatchResult, option_map};
+ghost use Rattle.disk_core.specs.DiskImage.{reads};
+ghost use Rattle.disk_core.specs.Life.{IsQuiet};
 ghost use Rattle.std.specs.IoError.{error_kind};
 ghost use Rattle.clap.specs.declared.error.ErrorKind.TheVariants.{ValueValidation};
 ghost use Rattle.host_disk.specs.Events.{Given};
 ghost use Rattle.host_disk.specs.HostDisk.{host_life};
 ghost use Rattle.folder_commands.specs.declared.status.Ending.TheVariants.{NoCommand, Failed};
 ghost use Rattle.folder_commands.specs.declared.why.Why.TheVariants.{Usage};
+ghost use Rattle.command_line.specs.declared.usage.UsageError.TheVariants.{Name};
 ghost use Rattle.folder_commands.specs.Folders.{ending_in};
-ghost use Rattle.folder_commands.specs.Left.{ends_with, leaves, sees};
-ghost use Rattle.folder_commands.specs.Serving.{AreOptions, HasBadOptions, HasBadSegments, HasBadStreams, HasBadWindow, HasNoEnds, HasSegments, HasWindow, IsAddressReason, IsNoAddress, IsReceiverWindow, IsSegmentLength, IsUnbound, RecordsStreams, ServesFolder, ServesOver, segment_reason, streams_reason, window_reason};
+ghost use Rattle.folder_commands.specs.Left.{ends_with, leaves, left_life, sees};
+ghost use Rattle.folder_commands.specs.Serving.{AreOptions, AsksForCheckpoints, HasBadCheckpoints, HasBadName, HasBadOptions, HasBadSegments, HasBadStreams, HasBadWindow, HasNoConsumersEnd, HasNoEnds, HasSegments, HasWindow, IsAddressReason, HasCatalogue, HasName, IsNoAddress, IsReceiverWindow, IsSegmentLength, IsUnbound, LacksCatalogue, LeavesUncatalogued, RecordsStreams, ServesFolder, ServesOver, checkpoints_reason, has_bytes, has_catalogue, is_name_byte, is_recorder_name, segment_reason, streams_reason, window_reason};
 
-use crate::commands::disk_of;
 use crate::exit::Exit;
-use crate::hidden::warns_of_hidden;
+use crate::flushing::FolderFlusher;
+use crate::hidden::warns_of_hidden_by;
+use crate::log::{Log, now};
 use crate::open_folder::closed;
 use crate::outcome::{Left, Outcome};
 use crate::reporting::{MetricsFile, ServeFaults, ServeReporter};
 use crate::status::Ending;
+use crate::waiting::disk_within;
 use crate::why::Why;
-use archive_commands::{Screen, Watched};
+use archive_commands::{Stop, Watched};
 use clap::error::ErrorKind;
 use command_line::{ServeWords, UsageError};
-use disk_core::Disk;
+use disk_core::{Disk, Fault, FileId};
 use flow_control::{INITIAL_WINDOW, LONGEST_WINDOW, SHORTEST_WINDOW};
+use frame_core::Refusal;
 use frame_core::limits::{FRAME_ALIGNMENT, MAX_TERM_LENGTH, MIN_TERM_LENGTH};
-use server::{Reporter, SEGMENT_LENGTH, ServeOptions, Served, serve_with};
+use host_disk::{HostDisk, ReadFolder};
+use metrics_text::RecorderAbout;
+use server::{
+    Ends, Flusher, Openings, Reporter, SEGMENT_LENGTH, ServeOptions, Served, serve_flushing,
+};
 use std::alloc::Global;
 use std::io::{self, Eprint};
+use std::marker::Brand;
 use std::net::{Ipv4Addr, Net, TcpListener, TcpStream, UdpSocket};
 use std::path::Path;
 use std::random::RandomSource;
@@ -35,30 +47,55 @@ use std::rt::Clock;
 use std::sync::Wait;
 use std::thread::Threads;
 
+/// The program's version, as `--version` begins.
+const PROGRAM_VERSION: &str = "0.2.0";
+/// The version of the catalogues that the program writes: docs/STORAGE.md, "Banks".
+const CATALOGUE_VERSION: &str = "2";
+/// Bytes of a recorder's name at most.
+const LONGEST_NAME: usize = 64;
 /// Streams that `--record` may name at most.
 const MOST_STREAMS: usize = 64;
 
-/// The listener of control lines, and the socket of datagrams.
-#[derive(Drop)]
-struct Ports {
-    listener: TcpListener,
-    socket: UdpSocket,
+/// Where control lines, datagrams and lines of consumers come to.
+#[derive(Clone, Copy, Drop)]
+struct Addresses {
+    address: Ipv4Addr,
+    control: u16,
+    receive: u16,
+    /// None: no consumers are served.
+    consumers: Option<ConsumersEnd>,
+}
+
+/// Where lines of consumers come to.
+#[derive(Clone, Copy, Drop)]
+struct ConsumersEnd {
+    address: Ipv4Addr,
+    port: u16,
 }
 
 /// Serves the archive of a folder as the words ask for, until a line quits, and reports on standard error what happens. If the
-/// words are wrong, no port is bound and the folder is not opened. It is reported if the archive's catalogue may hide entries; a
-/// strict server does not open it then.
+/// words are wrong, no port is bound and the folder is not opened. The folder is opened before the ports are bound, so that a server
+/// which waits for the one before it finds its ports free. It is reported if the archive's catalogue may hide entries; a strict
+/// server does not open it then, and another one makes no checkpoint before its first line. With `--no-create` a folder without a
+/// catalogue is refused.
 pub(crate) fn serve<
+    'a,
     R: Threads + Wait + Clock + Eprint + Net<Listener = TcpListener, Stream = TcpStream> + Sync,
->(net: &R, rt: HostRuntime, words: &ServeWords<'_>) -> Result<Left, Outcome>
+>(net: &'a R, rt: HostRuntime, words: &ServeWords<'a>) -> Result<Left, Outcome>
     ghost given: { Given }
     ensures { ServesFolder given words.now (sees result) (leaves result) (ends_with result) }
 {
     let options = options_of(words, receiver_id(&rt))?;
-    let ports = bound(net, words)?;
+    let addresses = addresses_of(words)?;
     let folder = Path::new(words.folder);
-    let disk = disk_of(rt, folder)?;
-    if let Some(looked) = warns_of_hidden(rt, folder, &Screen::new(net)) {
+    let disk = disk_within(rt, folder, words.wait)?;
+    let ends = match bound(net, &addresses) {
+        Ok(ends) => ends,
+        Err(exit) => return Err(unserved(exit, disk)),
+    };
+    let looked = warns_of_hidden_by(rt, folder, &log_of(net, words));
+    let begun = begun_with(options, looked.is_none());
+    if let Some(looked) = looked {
         if words.is_strict {
             return Err(Outcome {
                 exit: Exit::reported(Ending::Hidden),
@@ -67,11 +104,85 @@ pub(crate) fn serve<
             });
         }
     }
-    let disk = Watched::new(disk, ServeFaults::new(rt.alloc(), net));
-    let metrics = metrics_of(rt, words);
-    let reporter = ServeReporter::new(net, words.is_quiet, metrics);
-    let (disk, done) = serve_disk(net, rt.alloc(), ports, disk, &options, reporter);
+    let ready = with_catalogue(disk, words.no_create)?;
+    let disk = Watched::new(ready, ServeFaults::new(rt.alloc(), log_of(net, words)));
+    let mut digits = itoa::Buffer::new();
+    let label = words.name.unwrap_or(digits.format(words.receive));
+    let metrics = metrics_of(rt, words.metrics, label);
+    let reporter = ServeReporter::new(log_of(net, words), words.is_quiet, metrics);
+    let flusher = FolderFlusher::<R, Brand>::new(log_of(net, words), rt, folder);
+    let (disk, done) = serve_disk(net, rt.alloc(), ends, disk, &begun, reporter, &flusher);
     Outcome::leaving(done, closed(disk))
+}
+
+/// The options of a server that makes no checkpoint before its first line if its catalogue may hide entries.
+fn begun_with<'a>(options: ServeOptions<'a>, is_plain: bool) -> ServeOptions<'a>
+    ensures { result ≡ record options.entry { begins_short = options.entry.begins_short && is_plain } }
+{
+    ServeOptions {
+        begins_short: options.begins_short && is_plain,
+        ..options
+    }
+}
+
+/// A server ended so before it served the archive of a disk, which is closed.
+fn unserved(exit: Exit, disk: HostDisk) -> Outcome
+    ensures ending { result.exit.ending ≡ exit.ending }
+    ensures left { left_life result.left ≡ Some (host_life disk) }
+    ensures looked { result.looked ≡ None }
+{
+    Outcome {
+        exit,
+        left: Some(disk.close()),
+        looked: None,
+    }
+}
+
+/// The disk, if no catalogue is asked for, or there is one; else how a server ends that wants one. The disk is closed then.
+fn with_catalogue(disk: HostDisk, must_exist: bool) -> Result<HostDisk, Outcome>
+    ensures quiet { IfOk result (λ back. IsQuiet (host_life disk) (host_life back)) }
+    ensures there { IfOk result (λ back.
+        IsTrue must_exist → HasCatalogue (host_life disk) (host_life back)) }
+    ensures lacks { IfErr result (λ outcome. LeavesUncatalogued must_exist (host_life disk)
+        (left_life outcome.left) outcome.exit.ending) }
+{
+    if !must_exist {
+        return Ok(disk);
+    }
+    let mut disk = disk;
+    match has_catalogue(&mut disk) {
+        Ok(true) => Ok(disk),
+        Ok(false) => Err(unserved(
+            Exit {
+                ending: Ending::Refused(Refusal::NotCatalogue),
+                why: Why::NoArchive,
+            },
+            disk,
+        )),
+        Err(_) => {
+            let exit = Exit::stopped(Stop::Refused(Refusal::DeviceFault), disk.last_fault());
+            Err(unserved(exit, disk))
+        }
+    }
+}
+
+/// Whether a disk has a catalogue: a bank with bytes.
+fn has_catalogue<D: Disk>(disk: &mut D) -> Result<bool, Fault>
+    ensures quiet { IsQuiet (D.life disk.old) (D.life disk.new) }
+    ensures found { IfOk result (λ has. IsTrue (D.life disk.new).obeys → has ≡ has_catalogue (reads (D.life disk.old).now)) }
+{
+    let first = has_bytes(disk, FileId::BankA)?;
+    let second = has_bytes(disk, FileId::BankB)?;
+    Ok(first || second)
+}
+
+/// Whether a file of a disk has bytes.
+fn has_bytes<D: Disk>(disk: &mut D, file: FileId) -> Result<bool, Fault>
+    ensures quiet { IsQuiet (D.life disk.old) (D.life disk.new) }
+    ensures found { IfOk result (λ has. IsTrue (D.life disk.new).obeys → has ≡ has_bytes file (reads (D.life disk.old).now)) }
+{
+    let bytes = disk.len(file)?;
+    Ok(bytes > 0)
 }
 
 /// A random number for a receiver, so that no other one is likely to have it. 0 if the system gives none.
@@ -83,13 +194,15 @@ fn receiver_id(source: &impl RandomSource) -> i64 {
     }
 }
 
-/// The options of a server with this receiver's number that the words ask for. Refused if they name a bad receiver window, or bad
-/// streams or segments.
+/// The options of a server with this receiver's number that the words ask for. Refused if they name a bad receiver window, bad
+/// streams or segments, or no name of a recorder.
 fn options_of<'a>(words: &'a ServeWords<'_>, receiver_id: i64) -> Result<ServeOptions<'a>, Exit>
     ensures { MatchResult result
         (AreOptions words.now receiver_id)
         (λ exit. HasBadOptions words.now × (exit.ending ≡ NoCommand ValueValidation)) }
 {
+    let makes_checkpoints = makes_checkpoints(words)?;
+    check_name(words)?;
     Ok(ServeOptions {
         idle_seconds: u64::from(words.idle),
         settle_every: u64::from(words.settle_every),
@@ -100,7 +213,48 @@ fn options_of<'a>(words: &'a ServeWords<'_>, receiver_id: i64) -> Result<ServeOp
         segment_length: segment_length_of(words)?,
         is_strict: words.is_strict,
         is_measured: words.metrics.is_some(),
+        makes_checkpoints,
+        begins_short: makes_checkpoints,
     })
+}
+
+/// Refused if the name that the words give is no name of a recorder.
+fn check_name(words: &ServeWords<'_>) -> Result<(), Exit>
+    ensures named { MatchResult result (λ _. HasName words.now) (λ exit.
+        HasBadName words.now × (exit.ending ≡ NoCommand ValueValidation)) }
+    ensures why { IfErr result (λ exit. exit.why ≡ Usage Name) }
+{
+    match words.name {
+        Some(name) if !is_recorder_name(name) => Err(misworded(UsageError::Name)),
+        _ => Ok(()),
+    }
+}
+
+/// Whether a text may be the name of a recorder.
+fn is_recorder_name(text: &str) -> bool
+    ensures { result ≡ is_recorder_name text.now }
+{
+    let bytes = text.as_bytes();
+    1 <= bytes.len() && bytes.len() <= LONGEST_NAME && are_name_bytes(bytes)
+}
+
+/// Whether each of these bytes may stand in the name of a recorder.
+fn are_name_bytes(bytes: &[u8]) -> bool
+    ensures { result ≡ list_all is_name_byte bytes.now }
+{
+    bytes.iter().all(|byte| is_name_byte(*byte))
+}
+
+/// Whether a byte may stand in the name of a recorder: a letter or a digit of ASCII, `_`, `.` or `-`.
+fn is_name_byte(byte: u8) -> bool
+    ensures { result ≡ is_name_byte byte }
+{
+    (b'0' <= byte && byte <= b'9')
+        || (b'A' <= byte && byte <= b'Z')
+        || (b'a' <= byte && byte <= b'z')
+        || byte == b'_'
+        || byte == b'.'
+        || byte == b'-'
 }
 
 /// The greatest receiver window that the words ask for, in bytes; None without `--aeron`. Refused if `--window` comes without
@@ -167,6 +321,23 @@ fn is_segment_length(bytes: u32) -> bool
     MIN_TERM_LENGTH as u32 <= bytes && bytes <= MAX_TERM_LENGTH as u32 && bytes.is_power_of_two()
 }
 
+/// Whether the words ask for checkpoints: with `--aeron` unless `--no-checkpoints` comes with it, without it by `--checkpoints`.
+/// Refused if both words come, and if `--no-checkpoints` comes without `--aeron`.
+fn makes_checkpoints(words: &ServeWords<'_>) -> Result<bool, Exit>
+    ensures makes { MatchResult result
+        (AsksForCheckpoints words.now.is_aeron words.now.checkpoints words.now.no_checkpoints)
+        (λ exit. HasBadCheckpoints words.now × (exit.ending ≡ NoCommand ValueValidation)) }
+    ensures why { IfErr result (λ exit. exit.why ≡ Usage (checkpoints_reason words.now.checkpoints)) }
+{
+    if words.checkpoints && words.no_checkpoints {
+        return Err(misworded(UsageError::Checkpoints));
+    }
+    if words.no_checkpoints && !words.is_aeron {
+        return Err(misworded(UsageError::NoCheckpointsNeedsAeron));
+    }
+    Ok(words.checkpoints || words.is_aeron && !words.no_checkpoints)
+}
+
 /// The words are wrong, for this reason.
 pub(crate) fn misworded(error: UsageError) -> Exit
     ensures ending { result.ending ≡ NoCommand ValueValidation }
@@ -178,41 +349,108 @@ pub(crate) fn misworded(error: UsageError) -> Exit
     }
 }
 
-/// The address that a word names. Refused if it names none, or a multicast address: no one machine has that.
-fn address_of(word: &str) -> Result<Ipv4Addr, Exit>
+/// The address that a word names. Refused if it names none, or a multicast address, which no one machine has: for these reasons.
+fn address_of(word: &str, none: UsageError, multicast: UsageError) -> Result<Ipv4Addr, Exit>
     ensures address { MatchResult result
         (λ _. IsNoAddress word.now → ⊥)
         (λ exit. IsNoAddress word.now × (exit.ending ≡ NoCommand ValueValidation)) }
-    ensures why { IfErr result (λ exit. IsAddressReason word.now exit.why) }
+    ensures why { IfErr result (λ exit. IsAddressReason none multicast word.now exit.why) }
 {
     let Ok(address) = word.parse::<Ipv4Addr>() else {
-        return Err(misworded(UsageError::Address));
+        return Err(misworded(none));
     };
     if address.is_multicast() {
-        return Err(misworded(UsageError::Multicast));
+        return Err(misworded(multicast));
     }
     Ok(address)
 }
 
-/// Binds the ports: control lines to 127.0.0.1 alone, datagrams to an address. Refused if the words name no address or no
-/// port, and if the system refuses one.
-fn bound<R: Net<Listener = TcpListener, Stream = TcpStream>>(
-    net: &R,
-    words: &ServeWords<'_>,
-) -> Result<Ports, Exit>
+/// Where lines of consumers come to: the port of `--consumers`, at the address of `--consumers-on`, or at 127.0.0.1. None without
+/// a port. Refused if there is an address and no port, and if the words name no address or no port.
+fn consumers_end(words: &ServeWords<'_>) -> Result<Option<ConsumersEnd>, Exit>
+    ensures end { MatchResult result
+        (λ _. HasNoConsumersEnd words.now → ⊥)
+        (λ exit. HasNoConsumersEnd words.now × (exit.ending ≡ NoCommand ValueValidation)) }
+    ensures port { IfOk result (λ end. option_map (λ e. e.port) end ≡ words.now.consumers) }
+{
+    let Some(port) = words.consumers else {
+        if words.consumers_on.is_some() {
+            return Err(misworded(UsageError::NeedsConsumers));
+        }
+        return Ok(None);
+    };
+    Ok(Some(ConsumersEnd {
+        address: consumers_address(words)?,
+        port: port_of(port)?,
+    }))
+}
+
+/// The address that lines of consumers come to.
+fn consumers_address(words: &ServeWords<'_>) -> Result<Ipv4Addr, Exit>
+    ensures { MatchResult result
+        (λ _. IfSome words.now.consumers_on (λ word. IsNoAddress word.now → ⊥))
+        (λ exit. IsSomeAnd words.now.consumers_on (λ word. IsNoAddress word.now)
+        × (exit.ending ≡ NoCommand ValueValidation)) }
+{
+    match words.consumers_on {
+        None => Ok(Ipv4Addr::LOCALHOST),
+        Some(word) => address_of(
+            word,
+            UsageError::ConsumersAddress,
+            UsageError::ConsumersMulticast,
+        ),
+    }
+}
+
+/// The addresses and the ports that the words name. Refused if they name none.
+fn addresses_of(words: &ServeWords<'_>) -> Result<Addresses, Exit>
     ensures { MatchResult result
         (λ _. HasNoEnds words.now → ⊥)
-        (λ exit. IsUnbound words.now exit.ending) }
+        (λ exit. HasNoEnds words.now × (exit.ending ≡ NoCommand ValueValidation)) }
 {
-    let address = address_of(words.receive_on)?;
-    let (control, receive) = (port_of(words.control)?, port_of(words.receive)?);
-    let listener = match TcpListener::bind(net, (Ipv4Addr::LOCALHOST, control)) {
-        Ok(listener) => listener,
-        Err(error) => return Err(unbound(control, error)),
+    let address = address_of(words.receive_on, UsageError::Address, UsageError::Multicast)?;
+    Ok(Addresses {
+        address,
+        control: port_of(words.control)?,
+        receive: port_of(words.receive)?,
+        consumers: consumers_end(words)?,
+    })
+}
+
+/// Binds the ports: control lines to 127.0.0.1 alone, datagrams and lines of consumers each to an address. Refused if the system
+/// refuses one.
+fn bound<R: Net<Listener = TcpListener, Stream = TcpStream>>(
+    net: &R,
+    addresses: &Addresses,
+) -> Result<Ends, Exit>
+    ensures { IfErr result (λ exit. IsUnbound exit.ending) }
+{
+    let control = listener_at(net, Ipv4Addr::LOCALHOST, addresses.control)?;
+    let consumers = match addresses.consumers {
+        Some(end) => Some(listener_at(net, end.address, end.port)?),
+        None => None,
     };
-    match UdpSocket::bind(net, (address, receive)) {
-        Ok(socket) => Ok(Ports { listener, socket }),
-        Err(error) => Err(unbound(receive, error)),
+    match UdpSocket::bind(net, (addresses.address, addresses.receive)) {
+        Ok(datagrams) => Ok(Ends {
+            control,
+            consumers,
+            datagrams,
+        }),
+        Err(error) => Err(unbound(addresses.receive, error)),
+    }
+}
+
+/// Binds a port for connections to an address. Refused if the system refuses it.
+fn listener_at<R: Net<Listener = TcpListener, Stream = TcpStream>>(
+    net: &R,
+    address: Ipv4Addr,
+    port: u16,
+) -> Result<TcpListener, Exit>
+    ensures { IfErr result (λ exit. IsUnbound exit.ending) }
+{
+    match TcpListener::bind(net, (address, port)) {
+        Ok(listener) => Ok(listener),
+        Err(error) => Err(unbound(port, error)),
     }
 }
 
@@ -237,9 +475,25 @@ fn unbound(port: u16, error: io::Error) -> Exit
     }
 }
 
-/// The metrics file that the words ask for.
-fn metrics_of<'a>(rt: HostRuntime, words: &ServeWords<'a>) -> Option<MetricsFile<'a>> {
-    words.metrics.map(|name| MetricsFile::new(rt, name))
+/// Where the lines of a server go whose words these are.
+fn log_of<'a, R: Eprint + Clock>(net: &'a R, words: &ServeWords<'a>) -> Log<'a, R> {
+    Log::new(net, words.name, words.logs_times)
+}
+
+/// The metrics file of this name, of a recorder with this label that begins now. None without a name.
+fn metrics_of<'a>(
+    rt: HostRuntime,
+    name: Option<&'a str>,
+    label: &'a str,
+) -> Option<MetricsFile<'a>> {
+    let name = name?;
+    let about = RecorderAbout {
+        name: label,
+        version: PROGRAM_VERSION,
+        catalogue: CATALOGUE_VERSION,
+        started_micros: now(&rt).unsigned_abs().saturating_mul(1_000),
+    };
+    Some(MetricsFile::new(rt, name, about))
 }
 
 /// Serves the archive of a disk with these options until a line quits, or a strict server can record nothing. The disk comes
@@ -248,18 +502,22 @@ fn serve_disk<
     R: Threads + Wait + Clock + Sync,
     D: Disk + Drop + Send,
     T: Reporter + Drop + Send + Sync,
+    F: Flusher + Openings<ReadFolder> + Send + Sync,
 >(
     net: &R,
     alloc: Global,
-    ports: Ports,
+    ends: Ends,
     disk: D,
     options: &ServeOptions<'_>,
     reporter: T,
+    flusher: &F,
 ) -> (D, Result<(), Exit>)
     ensures { ServesOver options.now.is_strict (D.life disk) (D.life result.0) (ending_in result.1) }
 {
-    let Ports { listener, socket } = ports;
-    match serve_with(net, alloc, listener, socket, disk, options, reporter) {
+    let served = serve_flushing::<R, D, T, ReadFolder, F>(
+        net, alloc, ends, disk, options, reporter, flusher,
+    );
+    match served {
         Ok(Served { disk, stop }) => match stop {
             None => (disk, Ok(())),
             Some(stop) => (disk, Err(Exit::reported(Ending::Stuck(stop)))),

@@ -7,7 +7,7 @@ ghost use Rattle.folder_commands.specs.Folders.{VerifiesFolder, ending_by, endin
 ghost use Rattle.folder_commands.specs.Left.{ends_with, leaves};
 ghost use Rattle.folder_commands.specs.Looking.{VerifiesAsItStands};
 
-use crate::commands::{disk_of, opening_of};
+use crate::commands::opening_of;
 use crate::exit::Exit;
 use crate::hidden::warns_of_hidden;
 use crate::looking::folder_of;
@@ -15,6 +15,7 @@ use crate::observers::{FaultReporter, VerifyReporter};
 use crate::open_folder::{OpenFolder, closed, stopped};
 use crate::outcome::{Left, Outcome};
 use crate::status::Ending;
+use crate::waiting::disk_within;
 use crate::why::Why;
 use archive_commands::{
     ListedFiles, OpeningProgress, Progress, Screen, Stage, Verdict, Watched, verify_archive,
@@ -34,23 +35,26 @@ type VerifyViewer<'a> = (
 );
 
 /// Reads each recorded frame of the archive in a folder, which is opened, or only looked at, and writes what was found of each
-/// recording. How far it has come is shown on standard error, where that is a terminal, and what it found in all is reported there.
+/// recording, or of one alone. How far it has come is shown on standard error, where that is a terminal, and what it found in all is
+/// reported there. A folder that is opened is waited for.
 pub(crate) fn verify<W: Write>(
     rt: HostRuntime,
     folder: Path<'_>,
+    recording: Option<i64>,
     read_only: bool,
+    wait: Option<u32>,
     writer: &mut W,
 ) -> Result<Left, Outcome>
     ghost given: { Given }
-    ensures opened { read_only ≡ false →
-        VerifiesFolder given (W.contents writer.old) (W.contents writer.new) (leaves result) (ends_with result) }
-    ensures seen { read_only ≡ true →
-        VerifiesAsItStands given (W.contents writer.old) (W.contents writer.new) (leaves result) (ends_with result) }
+    ensures opened { read_only ≡ false → VerifiesFolder given recording
+        (W.contents writer.old) (W.contents writer.new) (leaves result) (ends_with result) }
+    ensures seen { read_only ≡ true → VerifiesAsItStands given recording
+        (W.contents writer.old) (W.contents writer.new) (leaves result) (ends_with result) }
 {
     if read_only {
-        verify_read_only(rt, folder, writer)
+        verify_read_only(rt, folder, recording, writer)
     } else {
-        verify_opened(rt, folder, writer)
+        verify_opened(rt, folder, recording, wait, writer)
     }
 }
 
@@ -58,17 +62,20 @@ pub(crate) fn verify<W: Write>(
 fn verify_opened<W: Write>(
     rt: HostRuntime,
     folder: Path<'_>,
+    recording: Option<i64>,
+    wait: Option<u32>,
     writer: &mut W,
 ) -> Result<Left, Outcome>
     ghost given: { Given }
-    ensures { VerifiesFolder given (W.contents writer.old) (W.contents writer.new) (leaves result) (ends_with result) }
+    ensures { VerifiesFolder given recording
+        (W.contents writer.old) (W.contents writer.new) (leaves result) (ends_with result) }
 {
     let screen = Screen::new(&rt);
-    let disk = disk_of(rt, folder)?;
+    let disk = disk_within(rt, folder, wait)?;
     let _ = warns_of_hidden(rt, folder, &screen);
     let disk = watched(&rt, &screen, disk);
     let mut reporter = VerifyReporter::new(&screen);
-    match verify_archive(rt.alloc(), disk, writer, &mut reporter) {
+    match verify_archive(rt.alloc(), disk, recording, writer, &mut reporter) {
         Ok((disk, verdict)) => {
             // Nobody else writes it meanwhile.
             let is_moving = false;
@@ -85,15 +92,17 @@ fn verify_opened<W: Write>(
 fn verify_read_only<W: Write>(
     rt: HostRuntime,
     folder: Path<'_>,
+    recording: Option<i64>,
     writer: &mut W,
 ) -> Result<Left, Outcome>
     ghost given: { Given }
-    ensures { VerifiesAsItStands given (W.contents writer.old) (W.contents writer.new) (leaves result) (ends_with result) }
+    ensures { VerifiesAsItStands given recording
+        (W.contents writer.old) (W.contents writer.new) (leaves result) (ends_with result) }
 {
     let screen = Screen::new(&rt);
     let folder = watched(&rt, &screen, folder_of(rt, folder)?);
     let mut reporter = VerifyReporter::new(&screen);
-    match verify_view(rt.alloc(), folder, writer, &mut reporter) {
+    match verify_view(rt.alloc(), folder, recording, writer, &mut reporter) {
         Ok((folder, finding)) => found(folder, finding, reporter),
         Err(fault) => {
             screen.clear();

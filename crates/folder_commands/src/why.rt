@@ -17,6 +17,8 @@ pub enum Why {
     HasFiles,
     /// The history that was asked for is out of its range.
     History(u32),
+    /// The folder of a server that makes no archive has none.
+    NoArchive,
     /// An archive was to be compacted that has no catalogue, or no other bank that may be written.
     NoSpare,
     /// A call of the disk failed.
@@ -60,6 +62,10 @@ impl fmt::Display for Why {
             Why::History(entries) => {
                 write!(f, "a history has 1 to 16777216 entries, and not {entries}")
             }
+            Why::NoArchive => write!(
+                f,
+                "the folder has no archive, and none is made with --no-create"
+            ),
             Why::NoSpare => write!(
                 f,
                 "there is no catalogue, or no other bank that a compaction may write"
@@ -112,7 +118,7 @@ const BAD_DESCRIPTOR: i32 = 9;
 
 /// The system's text of an error, without its number.
 #[derive(Clone, Copy, Drop)]
-struct SystemText(io::Error);
+pub(crate) struct SystemText(pub io::Error);
 
 impl fmt::Display for SystemText {
     fn fmt<W: fmt::Write>(&self, f: &mut fmt::Formatter<W>) -> fmt::Result {

@@ -4,7 +4,7 @@ use Rattle.std.specs.Prelude.{OnOk}
 use Rattle.std.proofs.lemmas.Result.{on_ok_weaker}
 
 -- all that was put behind the first text was put behind what the first one left
-put_first : (old text next rest end : List ℕ) → next ≡ old ++ text → end ≡ next ++ rest → end ≡ old ++ (text ++ rest)
+pub put_first : (old text next rest end : List ℕ) → next ≡ old ++ text → end ≡ next ++ rest → end ≡ old ++ (text ++ rest)
 put_first old text next rest end is then = then ∙ (ap (λ (left : List ℕ). left ++ rest) is ∙ append_assoc old text rest)
 
 -- nothing was put behind the last one

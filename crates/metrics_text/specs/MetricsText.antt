@@ -2,9 +2,11 @@
 use Rattle.std.specs.Prelude.{◌++◌, ◌/◌, ◌%◌, ℕ, Bool, true, false, List, [], ◌∷◌, codes, decimal}
 use Rattle.std.specs.Fmt.{signed_decimal}
 use Rattle.std.specs.List.{flat_map}
+use Rattle.metrics_text.specs.declared.about.RecorderAbout.{RecorderAbout}
 use Rattle.metrics_text.specs.declared.measures.ArchiveMeasures.{ArchiveMeasures}
 use Rattle.metrics_text.specs.declared.measures.RecorderMeasures.{RecorderMeasures}
 use Rattle.metrics_text.specs.declared.measures.DatagramMeasures.{DatagramMeasures}
+use Rattle.metrics_text.specs.declared.measures.ResumeMeasures.{ResumeMeasures}
 use Rattle.metrics_text.specs.declared.measures.ClientMeasures.{ClientMeasures}
 use Rattle.metrics_text.specs.declared.measures.RecordingMeasures.{RecordingMeasures}
 use Rattle.metrics_text.specs.declared.measures.ImageMeasures.{ImageMeasures}
@@ -15,9 +17,9 @@ use Rattle.metrics_text.specs.declared.image_family.ImageFamily.TheVariants.{Reb
 -- ---- numbers
 
 -- 1 if a fact holds, 0 if not
-abbrev pub one_or_zero : Bool → List ℕ
-one_or_zero true = codes "1"
-one_or_zero false = codes "0"
+abbrev pub one_or_zero : Bool → ℕ
+one_or_zero true = 1
+one_or_zero false = 0
 
 -- microseconds as seconds, with six decimals
 unfoldable pub seconds : ℕ → List ℕ
@@ -26,18 +28,26 @@ seconds us = decimal (us / 1000000) ++ (codes "." ++ (decimal (us / 100000 % 10)
 
 -- ---- lines
 
--- a line: a name, labels or nothing, a blank, and a number
+-- a line: a name, labels, a blank, and a number
 abbrev pub line : List ℕ → List ℕ → List ℕ → List ℕ
 line name labels number = name ++ (labels ++ (codes " " ++ (number ++ codes "\n")))
 
--- The labels of recordings and images. All of them are numbers, in which nothing has to be escaped.
-abbrev pub recording_labels : RecordingMeasures → List ℕ
-recording_labels r = codes "{recording=\"" ++ (signed_decimal r.recording ++ (codes "\",stream=\"" ++ (signed_decimal r.stream_id
-    ++ (codes "\",session=\"" ++ (signed_decimal r.session_id ++ codes "\"}")))))
+-- the label of each line of a recorder of this name, in which nothing has to be escaped
+abbrev pub own_labels : List ℕ → List ℕ
+own_labels who = codes "{recorder=\"" ++ (who ++ codes "\"}")
 
-abbrev pub image_labels : ImageMeasures → List ℕ
-image_labels i = codes "{image=\"" ++ (decimal i.image ++ (codes "\",stream=\"" ++ (signed_decimal i.stream_id
-    ++ (codes "\",session=\"" ++ (signed_decimal i.session_id ++ codes "\"}")))))
+-- The labels of recordings and images. All of them are numbers, in which nothing has to be escaped.
+abbrev pub recording_labels : List ℕ → RecordingMeasures → List ℕ
+recording_labels who r = codes "{recorder=\"" ++ (who ++ (codes "\",recording=\"" ++ (signed_decimal r.recording ++ (codes "\",stream=\"" ++ (signed_decimal r.stream_id
+    ++ (codes "\",session=\"" ++ (signed_decimal r.session_id ++ codes "\"}")))))))
+
+abbrev pub image_labels : List ℕ → ImageMeasures → List ℕ
+image_labels who i = codes "{recorder=\"" ++ (who ++ (codes "\",image=\"" ++ (decimal i.image ++ (codes "\",stream=\"" ++ (signed_decimal i.stream_id
+    ++ (codes "\",session=\"" ++ (signed_decimal i.session_id ++ codes "\"}")))))))
+
+-- the labels of the program that runs: its version, and that of the catalogues that it writes
+abbrev pub build_labels : RecorderAbout → List ℕ
+build_labels a = codes "{recorder=\"" ++ (a.name.now ++ (codes "\",version=\"" ++ (a.version.now ++ (codes "\",catalogue=\"" ++ (a.catalogue.now ++ codes "\"}")))))
 
 -- ---- families
 
@@ -61,69 +71,101 @@ abbrev pub family : List ℕ → List ℕ → List ℕ → List ℕ → Family
 family kind name help lines = record { name = name; kind = kind; help = help; lines = lines }
 
 -- a number that never falls while a server runs, and one that may
-abbrev pub counter : List ℕ → List ℕ → ℕ → Family
-counter name help n = family (codes "counter") name help (line name [] (decimal n))
+abbrev pub counter : List ℕ → List ℕ → List ℕ → ℕ → Family
+counter who name help n = family (codes "counter") name help (line name (own_labels who) (decimal n))
 
-abbrev pub gauge : List ℕ → List ℕ → List ℕ → Family
-gauge name help number = family (codes "gauge") name help (line name [] number)
+abbrev pub gauge : List ℕ → List ℕ → List ℕ → List ℕ → Family
+gauge who name help number = family (codes "gauge") name help (line name (own_labels who) number)
+
+-- a fact: 1 if it holds, 0 if not
+abbrev pub fact : List ℕ → List ℕ → List ℕ → Bool → Family
+fact who name help holds = gauge who name help (decimal (one_or_zero holds))
 
 -- how many there were, and how many seconds they took in all
-abbrev pub summary : List ℕ → List ℕ → ℕ → ℕ → Family
-summary name help us n = family (codes "summary") name help
-    (line (name ++ codes "_sum") [] (seconds us) ++ line (name ++ codes "_count") [] (decimal n))
+abbrev pub summary : List ℕ → List ℕ → List ℕ → ℕ → ℕ → Family
+summary who name help us n = family (codes "summary") name help
+    (line (name ++ codes "_sum") (own_labels who) (seconds us) ++ line (name ++ codes "_count") (own_labels who) (decimal n))
 
 -- ---- what is measured, in the order of the text
 
-abbrev pub state_families : ArchiveMeasures → List Family
-state_families a =
-    gauge (codes "aeron_recorder_archive_open") (codes "Whether an archive is open.") (one_or_zero a.is_open)
-    ∷ gauge (codes "aeron_recorder_archive_broken") (codes "Whether a device fault broke the archive.") (one_or_zero a.is_broken)
-    ∷ gauge (codes "aeron_recorder_history_full") (codes "Whether the history has no room for an entry.") (one_or_zero a.is_full)
+-- which program runs, and since when
+unfoldable pub build_line : RecorderAbout → List ℕ
+build_line a = line (codes "aeron_recorder_build_info") (build_labels a) (decimal 1)
+
+abbrev pub build_family : RecorderAbout → Family
+build_family a = family (codes "gauge") (codes "aeron_recorder_build_info") (codes "The program, and the catalogues that it writes.") (build_line a)
+
+abbrev pub start_family : RecorderAbout → Family
+start_family a = gauge a.name.now (codes "aeron_recorder_start_time_seconds") (codes "When the server began, since 1970.") (seconds a.started_micros)
+
+abbrev pub about_families : RecorderAbout → List Family
+about_families a = build_family a ∷ start_family a ∷ []
+
+abbrev pub state_families : List ℕ → ArchiveMeasures → List Family
+state_families who a =
+    fact who (codes "aeron_recorder_archive_open") (codes "Whether an archive is open.") a.is_open
+    ∷ fact who (codes "aeron_recorder_archive_broken") (codes "Whether a device fault broke the archive.") a.is_broken
+    ∷ fact who (codes "aeron_recorder_history_full") (codes "Whether the history has no room for an entry.") a.is_full
     ∷ []
 
-abbrev pub history_families : ArchiveMeasures → List Family
-history_families a =
-    gauge (codes "aeron_recorder_history_entries") (codes "Entries of the history that are used.") (decimal a.entries)
-    ∷ gauge (codes "aeron_recorder_history_limit_entries") (codes "Entries that the history may have.") (decimal a.limit)
+abbrev pub history_families : List ℕ → ArchiveMeasures → List Family
+history_families who a =
+    gauge who (codes "aeron_recorder_history_entries") (codes "Entries of the history that are used.") (decimal a.entries)
+    ∷ gauge who (codes "aeron_recorder_history_limit_entries") (codes "Entries that the history may have.") (decimal a.limit)
+    ∷ counter who (codes "aeron_recorder_checkpoints_total") (codes "Checkpoints that were made.") a.checkpoints
+    ∷ counter who (codes "aeron_recorder_checkpoints_refused_total") (codes "Checkpoints that were refused.") a.refused_checkpoints
     ∷ []
 
-abbrev pub recorder_families : RecorderMeasures → List Family
-recorder_families r =
-    counter (codes "aeron_recorder_recorded_bytes_total") (codes "Bytes of streams that are settled.") r.bytes
-    ∷ counter (codes "aeron_recorder_recorded_frames_total") (codes "Frames that were written.") r.frames
-    ∷ summary (codes "aeron_recorder_settle_seconds") (codes "Settles, and how long they took.") r.settle_micros r.settles
-    ∷ gauge (codes "aeron_recorder_settle_longest_seconds") (codes "How long the longest settle took.") (seconds r.longest_micros)
+abbrev pub recorder_families : List ℕ → RecorderMeasures → List Family
+recorder_families who r =
+    counter who (codes "aeron_recorder_recorded_bytes_total") (codes "Bytes of streams that are settled.") r.bytes
+    ∷ counter who (codes "aeron_recorder_recorded_frames_total") (codes "Frames that were written.") r.frames
+    ∷ summary who (codes "aeron_recorder_settle_seconds") (codes "Settles, and how long they took.") r.settle_micros r.settles
+    ∷ gauge who (codes "aeron_recorder_settle_longest_seconds") (codes "How long the longest settle took.") (seconds r.longest_micros)
     ∷ []
 
-abbrev pub received_families : DatagramMeasures → List Family
-received_families d =
-    counter (codes "aeron_recorder_datagrams_received_total") (codes "Datagrams that came.") d.received
-    ∷ counter (codes "aeron_recorder_datagrams_dropped_total") (codes "Datagrams that changed nothing.") d.dropped
-    ∷ counter (codes "aeron_recorder_datagrams_lost_total") (codes "Datagrams that were lost past the stock of an image.") d.lost
-    ∷ counter (codes "aeron_recorder_datagrams_repeated_total") (codes "Datagrams that came late or again.") d.repeats
+abbrev pub received_families : List ℕ → DatagramMeasures → List Family
+received_families who d =
+    counter who (codes "aeron_recorder_datagrams_received_total") (codes "Datagrams that came.") d.received
+    ∷ counter who (codes "aeron_recorder_datagrams_dropped_total") (codes "Datagrams that changed nothing.") d.dropped
+    ∷ counter who (codes "aeron_recorder_datagrams_lost_total") (codes "Datagrams that were lost past the stock of an image.") d.lost
+    ∷ counter who (codes "aeron_recorder_datagrams_repeated_total") (codes "Datagrams that came late or again.") d.repeats
     ∷ []
 
-abbrev pub sent_families : DatagramMeasures → List Family
-sent_families d =
-    counter (codes "aeron_recorder_naks_sent_total") (codes "NAK frames that were sent.") d.naks
-    ∷ counter (codes "aeron_recorder_status_messages_sent_total") (codes "Status messages that were sent.") d.status_messages
-    ∷ counter (codes "aeron_recorder_images_joined_total") (codes "Images that joined.") d.images
+abbrev pub sent_families : List ℕ → DatagramMeasures → List Family
+sent_families who d =
+    counter who (codes "aeron_recorder_naks_sent_total") (codes "NAK frames that were sent.") d.naks
+    ∷ counter who (codes "aeron_recorder_status_messages_sent_total") (codes "Status messages that were sent.") d.status_messages
+    ∷ counter who (codes "aeron_recorder_images_joined_total") (codes "Images that joined.") d.images
     ∷ []
 
-abbrev pub client_families : ClientMeasures → List Family
-client_families c =
-    counter (codes "aeron_recorder_connections_total") (codes "Connections that were taken.") c.connections
-    ∷ counter (codes "aeron_recorder_polls_total") (codes "Polls that were answered.") c.polls
-    ∷ gauge (codes "aeron_recorder_open_replays") (codes "Replays that are open.") (decimal c.replays)
+abbrev pub hole_families : List ℕ → ResumeMeasures → List Family
+hole_families who r =
+    counter who (codes "aeron_recorder_holes_total") (codes "Holes between recordings of one publication.") r.holes
+    ∷ counter who (codes "aeron_recorder_hole_bytes_total") (codes "Bytes of such holes.") r.hole_bytes
+    ∷ []
+
+abbrev pub resume_families : List ℕ → ResumeMeasures → List Family
+resume_families who r =
+    counter who (codes "aeron_recorder_resumed_total") (codes "Images that began before their setup frames, where a recording stands.") r.resumed
+    ∷ counter who (codes "aeron_recorder_resumed_bytes_total") (codes "Bytes that were missing before setup frames, and came.") r.resumed_bytes
+    ∷ gauge who (codes "aeron_recorder_resuming") (codes "Images that wait for such bytes.") (decimal r.resuming)
+    ∷ []
+
+abbrev pub client_families : List ℕ → ClientMeasures → List Family
+client_families who c =
+    counter who (codes "aeron_recorder_connections_total") (codes "Connections that were taken.") c.connections
+    ∷ counter who (codes "aeron_recorder_polls_total") (codes "Polls that were answered.") c.polls
+    ∷ gauge who (codes "aeron_recorder_open_replays") (codes "Replays that are open.") (decimal c.replays)
     ∷ []
 
 -- where each recording is settled to
-unfoldable pub recorded_line : RecordingMeasures → List ℕ
-recorded_line r = line (codes "aeron_recorder_recorded_position_bytes") (recording_labels r) (signed_decimal r.recorded)
+unfoldable pub recorded_line : List ℕ → RecordingMeasures → List ℕ
+recorded_line who r = line (codes "aeron_recorder_recorded_position_bytes") (recording_labels who r) (signed_decimal r.recorded)
 
-abbrev pub recorded_family : List RecordingMeasures → Family
-recorded_family recordings =
-    family (codes "gauge") (codes "aeron_recorder_recorded_position_bytes") (codes "Where an active recording is settled to.") (flat_map recorded_line recordings)
+abbrev pub recorded_family : List ℕ → List RecordingMeasures → Family
+recorded_family who recordings =
+    family (codes "gauge") (codes "aeron_recorder_recorded_position_bytes") (codes "Where an active recording is settled to.") (flat_map (recorded_line who) recordings)
 
 -- what is measured of each image: a family's name, what its numbers are, and the number of an image
 abbrev pub image_name : ImageFamily → List ℕ
@@ -141,25 +183,31 @@ image_number Rebuilt i = signed_decimal i.rebuilt
 image_number Consumed i = signed_decimal i.consumed
 image_number Gap i = seconds i.gap_micros
 
-unfoldable pub image_metric_line : ImageFamily → ImageMeasures → List ℕ
-image_metric_line f i = line (image_name f) (image_labels i) (image_number f i)
+unfoldable pub image_metric_line : List ℕ → ImageFamily → ImageMeasures → List ℕ
+image_metric_line who f i = line (image_name f) (image_labels who i) (image_number f i)
 
-abbrev pub image_family : ImageFamily → List ImageMeasures → Family
-image_family f images = family (codes "gauge") (image_name f) (image_help f) (flat_map (image_metric_line f) images)
+abbrev pub image_family : List ℕ → ImageFamily → List ImageMeasures → Family
+image_family who f images = family (codes "gauge") (image_name f) (image_help f) (flat_map (image_metric_line who f) images)
 
 -- families of all recordings and images
-abbrev pub position_text : List RecordingMeasures → List ImageMeasures → List ℕ
-position_text recordings images =
-    family_text (recorded_family recordings)
-    ++ (family_text (image_family Rebuilt images) ++ (family_text (image_family Consumed images) ++ family_text (image_family Gap images)))
+abbrev pub position_text : List ℕ → List RecordingMeasures → List ImageMeasures → List ℕ
+position_text who recordings images =
+    family_text (recorded_family who recordings)
+    ++ (family_text (image_family who Rebuilt images) ++ (family_text (image_family who Consumed images) ++ family_text (image_family who Gap images)))
+
+-- families of a recorder of this name
+abbrev pub measures_text : List ℕ → Measures → List ℕ
+measures_text who m =
+    flat_map family_text (state_families who m.archive)
+    ++ (flat_map family_text (history_families who m.archive)
+    ++ (flat_map family_text (recorder_families who m.recorder)
+    ++ (flat_map family_text (received_families who m.datagrams)
+    ++ (flat_map family_text (sent_families who m.datagrams)
+    ++ (flat_map family_text (hole_families who m.resumes)
+    ++ (flat_map family_text (resume_families who m.resumes)
+    ++ (flat_map family_text (client_families who m.clients)
+    ++ position_text who m.recordings.items m.images.items)))))))
 
 -- the text: that of each family, one after another
-abbrev pub metrics_text : Measures → List ℕ
-metrics_text m =
-    flat_map family_text (state_families m.archive)
-    ++ (flat_map family_text (history_families m.archive)
-    ++ (flat_map family_text (recorder_families m.recorder)
-    ++ (flat_map family_text (received_families m.datagrams)
-    ++ (flat_map family_text (sent_families m.datagrams)
-    ++ (flat_map family_text (client_families m.clients)
-    ++ position_text m.recordings.items m.images.items)))))
+abbrev pub metrics_text : RecorderAbout → Measures → List ℕ
+metrics_text a m = flat_map family_text (about_families a) ++ measures_text a.name.now m

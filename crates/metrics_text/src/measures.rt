@@ -7,12 +7,16 @@ pub struct ArchiveMeasures {
     pub is_open: bool,
     /// Whether a device fault broke it: nothing is recorded until it is opened again.
     pub is_broken: bool,
-    /// Whether its history is full: nothing is recorded until a compaction.
+    /// Whether its history is full: nothing is recorded until it is made short.
     pub is_full: bool,
     /// Entries of its history that are used.
     pub entries: u64,
     /// Entries that its history may have.
     pub limit: u64,
+    /// Checkpoints that were made.
+    pub checkpoints: u64,
+    /// Checkpoints that were refused.
+    pub refused_checkpoints: u64,
 }
 
 /// What is measured of the thread that records.
@@ -47,6 +51,21 @@ pub struct DatagramMeasures {
     pub status_messages: u64,
     /// Images that joined.
     pub images: u64,
+}
+
+/// What is measured of publications that came back.
+#[derive(Clone, Copy, Debug, PartialEq, Eq)]
+pub struct ResumeMeasures {
+    /// Holes between recordings of one publication that were seen.
+    pub holes: u64,
+    /// Bytes of them.
+    pub hole_bytes: u64,
+    /// Images that began where a recording stands, before their publications' setup frames.
+    pub resumed: u64,
+    /// Bytes that were missing before setup frames, and came.
+    pub resumed_bytes: u64,
+    /// Images that wait for such bytes now.
+    pub resuming: u64,
 }
 
 /// What is measured of clients.
@@ -96,6 +115,7 @@ pub struct Measures {
     pub archive: ArchiveMeasures,
     pub recorder: RecorderMeasures,
     pub datagrams: DatagramMeasures,
+    pub resumes: ResumeMeasures,
     pub clients: ClientMeasures,
     /// Of each active recording that has a seat.
     pub recordings: Vec<RecordingMeasures>,

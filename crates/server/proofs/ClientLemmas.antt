@@ -1,6 +1,6 @@
 -- What clients of a shared archive do, and the passes that they give back.
-use Rattle.std.proofs.Common.{◌≡◌, ◌∙◌, ◌+◌, ◌++◌, ◌<◌, ℕ, suc, ℤ, Bool, false, true, List, [], ◌∷◌, Result, Ok, Err, ap, arith, eqb, get_or, length, refl, subst, sym, take}
-use Rattle.std.specs.Prelude.{◌||◌, IfErr, IfOk}
+use Rattle.std.proofs.Common.{◌≡◌, ◌∙◌, ◌+◌, ◌++◌, ◌<◌, ℕ, suc, ℤ, Bool, false, true, List, [], ◌∷◌, Result, Ok, Err, ap, arith, eqb, get_or, inr, length, refl, subst, sym, take}
+use Rattle.std.specs.Prelude.{◌||◌, IfErr, IfOk, MatchBool}
 use Rattle.std.proofs.Math.Seq.{take-suc}
 use Rattle.atomic_table.specs.Seated.{TableId}
 use Rattle.call_history.specs.Passes.{AllOfTable, has_number}
@@ -8,7 +8,7 @@ use Rattle.call_history.specs.Values.{PassView}
 use Rattle.archive_lock.specs.declared.history.Made.{Made}
 use Rattle.disk_core.specs.Life.{Life}
 use Rattle.engine_core.specs.Engine.{EngineState}
-use Rattle.server.specs.Answering.{ClientView, ClosesReplay, ClosesEach}
+use Rattle.server.specs.Answering.{ClientView, ClosesReplay, ClosesEach, FollowsCall, KeepsShort}
 use Rattle.server.specs.Clients.{AreBack, IsBack}
 use Rattle.server_recorder.specs.Seats.{AreClientPasses, HasNumbersFrom}
 
@@ -31,6 +31,16 @@ closes_next life opening replays i replay old mid new within is before closes =
     let one : i + 1 ≡ suc i = omega arith in
     let next : take (i + 1) replays ≡ take i replays ++ replay ∷ [] = ap (λ k. take k replays) one ∙ take-suc replays i replay within ∙ ap (λ r. take i replays ++ r ∷ []) (sym is) in
     subst (λ rs. ClosesEach life opening rs old new) (sym next) (closes_more life opening (take i replays) replay old mid new before closes)
+
+-- ---- checkpoints
+
+-- no checkpoint follows a call
+kept_so : {D : Type 0} (life : D → Life) (opening : EngineState) (pass : PassView Made) (makes : Bool) → MatchBool makes (KeepsShort life opening pass pass) (pass ≡ pass)
+kept_so life opening pass true = inr refl
+kept_so life opening pass false = refl
+
+pub not_followed : {D : Type 0} (life : D → Life) (opening : EngineState) (c : ClientView) → FollowsCall life opening c c
+not_followed life opening c = (refl, kept_so life opening c.pass c.checkpoints)
 
 -- ---- passes
 
@@ -76,4 +86,4 @@ pub back_from : (k count : ℕ) (olds news : List (PassView Made)) → AreBack o
 back_from k count olds news back has = λ n from below. back_has n olds news back (has n from below)
 
 pub back_clients : (table : TableId) (count : ℕ) (olds news : List (PassView Made)) → AreBack olds news → AreClientPasses table count olds → AreClientPasses table count news
-back_clients table count olds news back are = (back_all table olds news back are.0, back_from 64 count olds news back are.1)
+back_clients table count olds news back are = (back_all table olds news back are.0, back_from 1 count olds news back are.1)

@@ -1,2 +1,4 @@
 mod ClientLemmas
+mod ConsumerLemmas
 mod ServingLemmas
+mod FollowingLemmas

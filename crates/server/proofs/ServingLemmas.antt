@@ -25,12 +25,12 @@ use Rattle.server.specs.declared.served.Stuck.{Stuck}
 pub ends_history : {D : Type 0} {dg : Disk.Ghosts D} (life : D → Life) (opening : EngineState) (keeps strict : Bool) (passes : List (PassView Made)) (engine : Engine D dg) (begun : DeskState) (history : Stored Call) (new : Life) (stop : Option Stuck)
     → ((calls : List Member) × ClosesWith opening keeps passes calls (engine_seen life (view_of engine calls)) begun history) → new ≡ life engine.archive.storage.disk → stop ≡ stuck_by strict engine.archive.desk.state → EndsHistory opening strict new stop
 ends_history life opening keeps strict passes engine begun history new stop (calls, closes) is stops =
-    record { calls = calls; now = engine_seen life (view_of engine calls); legal = closes.legal; leads = closes.leads; settled = closes.settled; left = is; stops = stops }
+    record { calls = calls; now = engine_seen life (view_of engine calls); legal = closes.legal; leads = closes.leads; settled = closes.settled; together = closes.together; left = is; stops = stops }
 
 -- a history of a strict server is one of a server that is not
 lenient : (opening : EngineState) (strict : Bool) (new : Life) (stop : Option Stuck) → EndsHistory opening strict new stop → EndsHistory opening false new None
 lenient opening strict new stop ends =
-    record { calls = ends.calls; now = ends.now; legal = ends.legal; leads = ends.leads; settled = ends.settled; left = ends.left; stops = refl }
+    record { calls = ends.calls; now = ends.now; legal = ends.legal; leads = ends.leads; settled = ends.settled; together = ends.together; left = ends.left; stops = refl }
 
 lenient_from : (strict : Bool) (beginning : Beginning) (first : SeenArchive) (new : Life) (stop : Option Stuck) → EndsFrom strict beginning first new stop → EndsFrom false beginning first new None
 lenient_from strict beginning (Open engine) new stop ends = lenient engine strict new stop ends

@@ -1,15 +1,15 @@
 -- How lines are answered by a part in a shared archive, and where no archive is open: docs/SERVING.md, "Control lines".
-use Rattle.std.specs.Prelude.{◌≡◌, ◌⊎◌, ◌++◌, ◌||◌, ℕ, ℤ, Bool, true, false, List, [], ◌∷◌, Option, None, Some, Result, Ok, Err, IsErrOf, MatchBool, remove}
+use Rattle.std.specs.Prelude.{◌≡◌, ◌⊎◌, ◌++◌, ◌||◌, ℕ, ℤ, Bool, true, false, List, [], ◌∷◌, Option, None, Some, Result, Ok, Err, IsErrOf, IsSome, MatchBool, remove}
 use Rattle.std.specs.List.{position}
 use Rattle.std.specs.Ordering.{int_eq}
 use Rattle.frame_core.specs.declared.geometry.Geometry.{Geometry}
 use Rattle.frame_core.specs.declared.refusal.Refusal.{Refusal}
-use Rattle.frame_core.specs.declared.refusal.Refusal.TheVariants.{BadLine, Broken, DeviceFault, NoMemory}
+use Rattle.frame_core.specs.declared.refusal.Refusal.TheVariants.{BadLine, Broken, DeviceFault, NoMemory, UnknownReplay}
 use Rattle.archive_model.specs.declared.reply.Reply.{Reply}
 use Rattle.archive_model.specs.declared.reply.Reply.TheVariants.{ReplayOpened}
 use Rattle.disk_core.specs.Life.{Life}
 use Rattle.control_core.specs.declared.event.Event.{Event}
-use Rattle.control_core.specs.declared.event.Event.TheVariants.{Ask, ReplayClose, Settle}
+use Rattle.control_core.specs.declared.event.Event.TheVariants.{Ask, Checkpoint, ReplayClose, ReplayPoll, ReplayPollTo, Settle, SettleAll}
 use Rattle.control_core.specs.declared.request.Request.{Request}
 use Rattle.control_core.specs.declared.request.Request.TheVariants as requests
 use Rattle.control_core.specs.Bytes.{terms_in}
@@ -17,19 +17,25 @@ use Rattle.call_history.specs.Values.{PassView}
 use Rattle.engine_core.specs.Engine.{EngineState}
 use Rattle.archive_lock.specs.declared.history.Made.{Made}
 use Rattle.archive_lock.specs.History.{EndsWithAnswer, IsNoted, SeesDesk}
-use Rattle.tool_core.specs.Answering.{Ways}
+use Rattle.tool_core.specs.Answering.{Checkpointing, Ways}
 use Rattle.tool_core.specs.Merging.{Ends}
 
 -- the line is none here, and nothing is changed
 abbrev pub IsNoLine : {A : Type 0} → A → Ends A
 IsNoLine old outcome new = (outcome ≡ Err BadLine) × (new ≡ old)
 
+-- the line `checkpoint` is one if a server makes checkpoints; nothing is done before a line
+abbrev pub offered_if : {A : Type 0} → (A → Bool) → Checkpointing A
+offered_if offers = record { offers = offers; before = λ old new. new ≡ old }
+
 -- ---- clients of a shared archive
 
--- a client's pass, and the replays that its connection opened and did not close, as far as they are noted
+-- a client's pass, the replays that its connection opened and did not close, as far as they are noted, and whether its server
+-- makes checkpoints
 pub record ClientView : Type 0 where
   pub pass : PassView Made
   pub replays : List ℤ
+  pub checkpoints : Bool
 
 -- no replay is noted
 abbrev pub none_noted : ClientView → ClientView
@@ -44,6 +50,16 @@ opened_replay outcome = None
 abbrev pub closed_replay : Event → Result Reply Refusal → Option ℤ
 closed_replay (ReplayClose replay) (Ok reply) = Some replay
 closed_replay event outcome = None
+
+-- the replay that a call polls
+abbrev pub polled_replay : Event → Option ℤ
+polled_replay (ReplayPoll replay most) = Some replay
+polled_replay (ReplayPollTo replay most limit) = Some replay
+polled_replay event = None
+
+-- a replay that is a follower's can't be polled: no call is made
+abbrev pub IsGuarded : {A : Type 0} → Event → A → Result Reply Refusal → A → Type 0
+IsGuarded event old outcome new = IsSome (polled_replay event) × (outcome ≡ Err UnknownReplay) × (new ≡ old)
 
 -- these replays without one
 abbrev pub is_replay : ℤ → ℤ → Bool
@@ -77,14 +93,33 @@ TermsAre opening session old terms new = SeesDesk opening old.pass (λ d. terms 
 
 module _ {D : Type 0} (life : D → Life) (opening : EngineState) where
   -- What the pass has seen then is a legal history that ends with this call and its answer, and begins with all that it had
-  -- seen. Want of memory is none. The replay that the call opened or closed is noted.
+  -- seen. Want of memory is none.
+  pub record CallsOnce (event : Event) (old : PassView Made) (outcome : Result Reply Refusal) (new : PassView Made) : Type 0 where
+    pub answers : IsNoted outcome → EndsWithAnswer life opening old event outcome new
+    pub unnoted : IsErrOf outcome NoMemory → new ≡ old
+
+  -- a checkpoint by the pass, which nobody is answered; or none
+  abbrev pub KeepsShort : PassView Made → PassView Made → Type 0
+  KeepsShort old new = ((outcome : Result Reply Refusal) × CallsOnce Checkpoint old outcome new) ⊎ (new ≡ old)
+
+  -- after a call there may be a checkpoint, if the server makes any; else there is nothing
+  abbrev pub FollowsCall : ClientView → ClientView → Type 0
+  FollowsCall old new = (new ≡ record old { pass = new.pass }) × MatchBool old.checkpoints (KeepsShort old.pass new.pass) (new.pass ≡ old.pass)
+
+  -- The call is made, and the replay that it opened or closed is noted. Then there may be a checkpoint.
   pub record CallsShared (event : Event) (old : ClientView) (outcome : Result Reply Refusal) (new : ClientView) : Type 0 where
-    pub answers : IsNoted outcome → EndsWithAnswer life opening old.pass event outcome new.pass
-    pub unnoted : IsErrOf outcome NoMemory → new.pass ≡ old.pass
-    pub noted : NotesReplay event outcome old.replays new.replays
+    pub called : ClientView
+    pub calls : CallsOnce event old.pass outcome called.pass
+    pub noted : NotesReplay event outcome old.replays called.replays
+    pub same : called.checkpoints ≡ old.checkpoints
+    pub follows : FollowsCall called new
+
+  -- the call is made, or a poll is of a follower's replay
+  abbrev pub CallsGuarded : Event → ClientView → Result Reply Refusal → ClientView → Type 0
+  CallsGuarded event old outcome new = CallsShared event old outcome new ⊎ IsGuarded event old outcome new
 
   abbrev pub shared_ways : Ways ClientView
-  shared_ways = record { terms = TermsAre opening; call = CallsShared; reopen = IsNoLine; compact = IsNoLine }
+  shared_ways = record { terms = TermsAre opening; call = CallsGuarded; reopen = IsNoLine; compact = IsNoLine }
 
   -- a call that closes a replay, however it is answered
   abbrev pub ClosesReplay : ℤ → ClientView → ClientView → Type 0
@@ -123,6 +158,7 @@ is_command request = true
 abbrev pub makes_entry : Event → Bool
 makes_entry (Ask request) = is_command request
 makes_entry (Settle session) = true
+makes_entry (SettleAll sessions) = true
 makes_entry event = false
 
 -- the device failed

@@ -1,5 +1,5 @@
 -- How many clients are served at a time, and the passes that are lent to their threads: docs/ARCHITECTURE.md, "Serving".
-use Rattle.std.specs.Prelude.{◌≡◌, ℕ, max, min, List, [], ◌∷◌, Option, Some, None}
+use Rattle.std.specs.Prelude.{◌≡◌, ℕ, max, min, Bool, if◌then◌else◌, List, [], ◌∷◌, Option, Some, None}
 use Rattle.call_history.specs.Values.{PassView}
 use Rattle.archive_lock.specs.declared.history.Made.{Made}
 
@@ -7,6 +7,10 @@ use Rattle.archive_lock.specs.declared.history.Made.{Made}
 abbrev pub places_of : Option ℕ → ℕ
 places_of None = 1
 places_of (Some clients) = max 1 (min clients 64)
+
+-- how many more at a port of consumers, if there is one
+abbrev pub consumers_of : Bool → ℕ
+consumers_of has_consumers = if has_consumers then 64 else 0
 
 -- a pass that was lent and comes back: it may have made calls
 pub record IsBack (old new : PassView Made) : Type 0 where

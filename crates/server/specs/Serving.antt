@@ -5,7 +5,7 @@ use Rattle.control_core.specs.Desk.{DeskState, has_room}
 use Rattle.engine_core.specs.Consistent.{IsCrashConsistent}
 use Rattle.engine_core.specs.Engine.{Content, EngineState, archive_of}
 use Rattle.engine_core.specs.Opening.{ReadsAsBefore}
-use Rattle.archive_lock.specs.Durable.{SettlingsStay}
+use Rattle.archive_lock.specs.Durable.{GroupsStay, SettlingsStay}
 use Rattle.archive_lock.specs.History.{IsLegalHistory, Member}
 use Rattle.archive_lock.specs.Leading.{LeadsTo}
 use Rattle.tool_core.specs.declared.fault.EarlyEnd.{EarlyEnd}
@@ -31,7 +31,7 @@ unopened_stop strict beginning = None
 -- ---- the disk
 
 -- The disk is the one at the end of a legal history of calls from an opening, which leads to it. Where the archive was
--- crash-consistent and its disk obeyed, what its settlings answered stays. A strict server says whether anything can be
+-- crash-consistent and its disk obeyed, what its settlings answered stays, of one session and of several together. A strict server says whether anything can be
 -- recorded then.
 pub record EndsHistory (opening : EngineState) (strict : Bool) (new : Life) (stop : Option Stuck) : Type 0 where
   pub calls : List Member
@@ -39,6 +39,7 @@ pub record EndsHistory (opening : EngineState) (strict : Bool) (new : Life) (sto
   pub legal : IsLegalHistory opening calls
   pub leads : LeadsTo opening calls now
   pub settled : (c : Content) → IsCrashConsistent opening.life opening.log (archive_of opening c) → IsTrue now.life.obeys → SettlingsStay (archive_of opening c) calls now
+  pub together : (c : Content) → IsCrashConsistent opening.life opening.log (archive_of opening c) → IsTrue now.life.obeys → GroupsStay (archive_of opening c) calls now
   pub left : new ≡ now.life
   pub stops : stop ≡ stuck_by strict now.desk
 

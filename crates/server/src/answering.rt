@@ -1,10 +1,11 @@
 //! Who answers the lines of connections over a shared archive. docs/SERVING.md, "Control lines".
 
-ghost use Rattle.std.specs.Prelude.{◌≡◌, [], IsErrOf, MatchBool};
+ghost use Rattle.std.specs.Prelude.{◌≡◌, [], MatchBool, Result};
 ghost use Rattle.std.specs.List.{position};
-ghost use Rattle.frame_core.specs.declared.refusal.Refusal.TheVariants.{NoMemory};
-ghost use Rattle.archive_lock.specs.History.{EndsWithAnswer, IsNoted};
-ghost use Rattle.server.specs.Answering.{ClosesReplay, ClosesEach, EndsConnection, NotesOpened, NotesReplay, awaited_before, closed_replay, is_command, is_device_fault, is_replay, replays_left_by, left_open, makes_entry, may_be_last, opened_replay, settled_after, settled_before, shared_ways};
+ghost use Rattle.frame_core.specs.declared.refusal.Refusal.{Refusal};
+ghost use Rattle.archive_model.specs.declared.reply.Reply.{Reply};
+ghost use Rattle.control_core.specs.declared.event.Event.TheVariants.{Checkpoint};
+ghost use Rattle.server.specs.Answering.{CallsOnce, CallsShared, ClosesReplay, ClosesEach, EndsConnection, FollowsCall, KeepsShort, NotesOpened, NotesReplay, awaited_before, closed_replay, is_command, is_device_fault, is_replay, replays_left_by, left_open, makes_entry, may_be_last, offered_if, opened_replay, polled_replay, settled_after, settled_before, shared_ways};
 
 use crate::connections::{Connections, Server};
 use crate::place::Place;
@@ -14,13 +15,13 @@ use call_history::Pass;
 use control_core::{Event, Request};
 use disk_core::Disk;
 use frame_core::{Geometry, Refusal};
-use server_recorder::note_standing;
+use server_recorder::{is_begun, note_checkpoint, note_standing};
 use server_state::{ClientNews, Happening, Reporter};
 use std::alloc::Global;
 use std::marker::{Model, PhantomData};
 use std::mem;
 use std::sync::Wait;
-use tool_core::Answerer;
+use tool_core::{Answerer, CheckpointOutcome};
 
 /// A shared archive, and what clients' calls on it are noted in.
 #[derive(Drop)]
@@ -28,15 +29,20 @@ pub(crate) struct NotedArchive<'a, D: Disk, A: Naming, R, T> {
     pub rt: &'a R,
     pub archive: &'a SharedArchive<D, A>,
     pub with: &'a Connections<T>,
+    /// Whether positions that are asked for wait for a settling, and ask for the next one.
+    pub settles: bool,
 }
 
 impl<'a, D: Disk, A: Naming, R: Wait, T: Reporter> NotedArchive<'a, D, A, R, T> {
-    /// Makes a call, as `SharedArchive::call`, and notes its answer.
-    fn call(&self, alloc: Global, pass: &mut Pass<Made>, event: &Event) -> Result<Reply, Refusal>
+    /// Makes a call, as `SharedArchive::call_with_standing`, and notes its answer.
+    fn call(
+        &self,
+        alloc: Global,
+        pass: &mut Pass<Made>,
+        event: &Event,
+    ) -> (Result<Reply, Refusal>, Option<Standing>)
         requires { pass.old.table ≡ A.table }
-        ensures answers { IsNoted result →
-            EndsWithAnswer D.life A.opening pass.old event.now result pass.new }
-        ensures unnoted { IsErrOf result NoMemory → pass.new ≡ pass.old }
+        ensures calls { CallsOnce D.life A.opening event.now pass.old result.0 pass.new }
         ensures pass { (pass.new.table ≡ pass.old.table) × (pass.new.number ≡ pass.old.number) }
     {
         self.settle_first(event);
@@ -47,17 +53,54 @@ impl<'a, D: Disk, A: Naming, R: Wait, T: Reporter> NotedArchive<'a, D, A, R, T> 
         }
     }
 
+    /// Notes where the archive stands after a call. If a checkpoint is due then, it is made first, and noted.
+    fn keep_short(&self, alloc: Global, pass: &mut Pass<Made>, standing: &Standing)
+        requires { pass.old.table ≡ A.table }
+        ensures short { KeepsShort D.life A.opening pass.old pass.new }
+        ensures pass { (pass.new.table ≡ pass.old.table) × (pass.new.number ≡ pass.old.number) }
+    {
+        if is_begun(&self.with.shared, standing) {
+            self.make_checkpoint(alloc, pass, standing);
+        } else {
+            note_standing(&self.with.shared, standing);
+        }
+    }
+
+    /// Notes how a checkpoint ended that a client asked for, and where the archive stands after it.
+    fn note_asked(&self, outcome: &Result<Reply, Refusal>, standing: &Option<Standing>) {
+        if let Some(after) = standing {
+            let before = Standing {
+                is_broken: after.is_broken,
+                counted: self.with.shared.meter.entries(),
+                limit: after.limit,
+                active: after.active,
+                version: after.version,
+            };
+            note_checkpoint(&self.with.shared, &before, outcome, standing);
+        }
+    }
+
+    /// Makes a checkpoint that has begun, of an archive that stands so, and notes how it ended.
+    fn make_checkpoint(&self, alloc: Global, pass: &mut Pass<Made>, before: &Standing)
+        requires { pass.old.table ≡ A.table }
+        ensures made { (outcome : Result Reply Refusal) × CallsOnce D.life A.opening Checkpoint pass.old outcome pass.new }
+        ensures pass { (pass.new.table ≡ pass.old.table) × (pass.new.number ≡ pass.old.number) }
+    {
+        let (outcome, after) = self
+            .archive
+            .call_with_standing(self.rt, alloc, pass, &Event::Checkpoint);
+        note_checkpoint(&self.with.shared, before, &outcome, &after);
+    }
+
     /// Makes a call and notes it, before or after each other call by this function.
     fn call_in_turn(
         &self,
         alloc: Global,
         pass: &mut Pass<Made>,
         event: &Event,
-    ) -> Result<Reply, Refusal>
+    ) -> (Result<Reply, Refusal>, Option<Standing>)
         requires { pass.old.table ≡ A.table }
-        ensures answers { IsNoted result →
-            EndsWithAnswer D.life A.opening pass.old event.now result pass.new }
-        ensures unnoted { IsErrOf result NoMemory → pass.new ≡ pass.old }
+        ensures calls { CallsOnce D.life A.opening event.now pass.old result.0 pass.new }
         ensures pass { (pass.new.table ≡ pass.old.table) × (pass.new.number ≡ pass.old.number) }
     {
         let _turn = self.with.shared.turn.lock(self.rt);
@@ -69,16 +112,14 @@ impl<'a, D: Disk, A: Naming, R: Wait, T: Reporter> NotedArchive<'a, D, A, R, T> 
         alloc: Global,
         pass: &mut Pass<Made>,
         event: &Event,
-    ) -> Result<Reply, Refusal>
+    ) -> (Result<Reply, Refusal>, Option<Standing>)
         requires { pass.old.table ≡ A.table }
-        ensures answers { IsNoted result →
-            EndsWithAnswer D.life A.opening pass.old event.now result pass.new }
-        ensures unnoted { IsErrOf result NoMemory → pass.new ≡ pass.old }
+        ensures calls { CallsOnce D.life A.opening event.now pass.old result.0 pass.new }
         ensures pass { (pass.new.table ≡ pass.old.table) × (pass.new.number ≡ pass.old.number) }
     {
         let (outcome, standing) = self.archive.call_with_standing(self.rt, alloc, pass, event);
-        self.note(event, &outcome, standing);
-        outcome
+        self.note(event, &outcome);
+        (outcome, standing)
     }
 
     /// If a call is a stop, its recording's session settles first: what was recorded of it is kept. If it asks for positions,
@@ -87,25 +128,20 @@ impl<'a, D: Disk, A: Naming, R: Wait, T: Reporter> NotedArchive<'a, D, A, R, T> 
         if let Some(recording) = settled_before(event) {
             self.with.shared.settle_writer(self.rt, recording);
         }
-        if let Some(recording) = awaited_before(event) {
+        if let (true, Some(recording)) = (self.settles, awaited_before(event)) {
             self.with.shared.await_writer(self.rt, recording);
         }
     }
 
-    /// Notes what a call was answered, beside the history, and where the archive then stands, if the call may be the last one.
-    fn note(&self, event: &Event, outcome: &Result<Reply, Refusal>, standing: Option<Standing>) {
+    /// Notes what a call was answered, beside the history.
+    fn note(&self, event: &Event, outcome: &Result<Reply, Refusal>) {
         self.with.shared.meter.note_call(event, outcome);
         self.with.shared.report_wrong_word(event, outcome);
         if self.with.shared.note(self.rt, event, outcome) {
             self.with.shared.look_round(&self.with.socket);
         }
-        if let Some(recording) = settled_after(event, outcome) {
+        if let (true, Some(recording)) = (self.settles, settled_after(event, outcome)) {
             self.with.shared.ask_writer(self.rt, recording);
-        }
-        if let Some(standing) = standing {
-            if may_be_last(event, outcome) {
-                note_standing(&self.with.shared, &standing);
-            }
         }
     }
 }
@@ -117,6 +153,8 @@ pub(crate) struct Controller<'a, D: Disk, A: Naming, P: Place, R, T> {
     noted: NotedArchive<'a, D, A, R, T>,
     pass: Pass<Made>,
     replays: Vec<i64>,
+    /// Whether the server makes checkpoints.
+    checkpoints: bool,
     of: PhantomData<P>,
 }
 
@@ -126,7 +164,7 @@ impl<'a, D: Disk, A: Naming, P: Place, R, T> Model for Controller<'a, D, A, P, R
 
     ghost Value = { ClientView };
 
-    ghost view = { λ c. record { pass = c.pass; replays = c.replays.items } };
+    ghost view = { λ c. record { pass = c.pass; replays = c.replays.items; checkpoints = c.checkpoints } };
 
     ghost invariant = { λ c. (c.pass.table ≡ A.table) × (c.pass.number ≡ P.number) };
 }
@@ -137,15 +175,17 @@ impl<'a, D: Disk, A: Naming, P: Place, R: Wait, T: Reporter> Controller<'a, D, A
         alloc: Global,
         noted: NotedArchive<'a, D, A, R, T>,
         pass: Pass<Made>,
+        checkpoints: bool,
     ) -> Controller<'a, D, A, P, R, T>
         requires table { pass.table ≡ A.table }
         requires number { pass.number ≡ P.number }
-        ensures { result ≡ record { pass = pass; replays = [] } }
+        ensures { result ≡ record { pass = pass; replays = []; checkpoints = checkpoints } }
     {
         Controller {
             noted,
             pass,
             replays: Vec::new(alloc),
+            checkpoints,
             of: PhantomData,
         }
     }
@@ -159,7 +199,54 @@ impl<'a, D: Disk, A: Naming, P: Place, R: Wait, T: Reporter> Controller<'a, D, A
         self.pass
     }
 
-    /// ClosesReplay replays, each by a call.
+    /// Notes where the archive stands after a call that makes an entry, and after a device fault. A checkpoint comes first, if the
+    /// server makes any and one is due. What became of one that a client asked for is noted.
+    #[tactic(auto, using(crate::proofs::ClientLemmas::not_followed))]
+    fn after_call(
+        &mut self,
+        alloc: Global,
+        event: &Event,
+        outcome: &Result<Reply, Refusal>,
+        standing: &Option<Standing>,
+    )
+        ensures { FollowsCall D.life A.opening self.old self.new }
+    {
+        if matches!(event, Event::Checkpoint) {
+            self.noted.note_asked(outcome, standing);
+            return;
+        }
+        match standing {
+            Some(standing) => {
+                if may_be_last(event, outcome) {
+                    self.follow(alloc, standing);
+                }
+            }
+            None => {}
+        }
+    }
+
+    /// Notes where the archive stands after a call. A checkpoint comes first, if the server makes any and one is due.
+    fn follow(&mut self, alloc: Global, standing: &Standing)
+        ensures { FollowsCall D.life A.opening self.old self.new }
+    {
+        if self.checkpoints {
+            self.noted.keep_short(alloc, &mut self.pass, standing);
+        } else {
+            note_standing(&self.noted.with.shared, standing);
+        }
+    }
+
+    /// Makes a call, and notes the replay that it opened or closed. A checkpoint may follow.
+    fn call_shared(&mut self, alloc: Global, event: &Event) -> Result<Reply, Refusal>
+        ensures { CallsShared D.life A.opening event.now self.old result self.new }
+    {
+        let (outcome, standing) = self.noted.call(alloc, &mut self.pass, event);
+        note_replay(&mut self.replays, event, &outcome);
+        self.after_call(alloc, event, &outcome, &standing);
+        outcome
+    }
+
+    /// Closes replays, each by a call.
     fn close_each(&mut self, alloc: Global, replays: &[i64])
         ensures { ClosesEach D.life A.opening replays.now self.old self.new }
     {
@@ -169,11 +256,11 @@ impl<'a, D: Disk, A: Naming, P: Place, R: Wait, T: Reporter> Controller<'a, D, A
         }
     }
 
-    /// ClosesReplay a replay by a call.
+    /// Closes a replay by a call.
     fn close(&mut self, alloc: Global, replay: &i64)
         ensures { ClosesReplay D.life A.opening replay.now self.old self.new }
     {
-        let _ = self.call(alloc, &Event::ReplayClose { replay: *replay });
+        let _ = self.call_shared(alloc, &Event::ReplayClose { replay: *replay });
     }
 }
 
@@ -250,13 +337,31 @@ fn closed_replay(event: &Event, outcome: &Result<Reply, Refusal>) -> Option<i64>
     }
 }
 
+/// The replay that a call polls.
+fn polled_replay(event: &Event) -> Option<i64>
+    ensures { result ≡ polled_replay event.now }
+{
+    match event {
+        Event::ReplayPoll { replay, max } => {
+            let _ = max;
+            Some(*replay)
+        }
+        Event::ReplayPollTo { replay, max, limit } => {
+            let _ = max;
+            let _ = limit;
+            Some(*replay)
+        }
+        _ => None,
+    }
+}
+
 /// Whether an accepted call of it makes an entry of the history.
 fn makes_entry(event: &Event) -> bool
     ensures { result ≡ makes_entry event.now }
 {
     match event {
         Event::Ask(request) => is_command(request),
-        Event::Settle { .. } => true,
+        Event::Settle { .. } | Event::SettleAll { .. } => true,
         _ => false,
     }
 }
@@ -326,6 +431,8 @@ impl<D: Disk, A: Naming, P: Place, R: Wait, T: Reporter> Answerer
     for Controller<'_, D, A, P, R, T> {
     ghost ways = { shared_ways D.life A.opening };
 
+    ghost checkpoints = { offered_if (λ client. client.checkpoints) };
+
     fn terms(&mut self, session: &i64) -> Result<Geometry, Refusal> {
         self.noted
             .archive
@@ -333,9 +440,19 @@ impl<D: Disk, A: Naming, P: Place, R: Wait, T: Reporter> Answerer
     }
 
     fn call(&mut self, alloc: Global, event: &Event) -> Result<Reply, Refusal> {
-        let outcome = self.noted.call(alloc, &mut self.pass, event);
-        note_replay(&mut self.replays, event, &outcome);
-        outcome
+        let NotedArchive { rt, with, .. } = self.noted;
+        if let Event::ReplayClose { replay } = event {
+            with.followers.end_follower(rt, *replay);
+        }
+        let Some(replay) = polled_replay(event) else {
+            return self.call_shared(alloc, event);
+        };
+        // A follower's replay is opened under the same lock: there is no moment at which it can be polled.
+        let places = with.followers.lock(rt);
+        if places.has(replay) {
+            return Err(Refusal::UnknownReplay);
+        }
+        self.call_shared(alloc, event)
     }
 
     fn reopen(self, _alloc: Global) -> (Self, Result<Reply, Refusal>) {
@@ -344,6 +461,14 @@ impl<D: Disk, A: Naming, P: Place, R: Wait, T: Reporter> Answerer
 
     fn compact(self, _alloc: Global) -> (Self, Result<Reply, Refusal>) {
         (self, Err(Refusal::BadLine))
+    }
+
+    fn offers_checkpoints(&self) -> bool {
+        self.checkpoints
+    }
+
+    fn prepare(&mut self, _alloc: Global) -> Option<CheckpointOutcome> {
+        None
     }
 }
 

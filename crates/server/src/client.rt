@@ -1,8 +1,8 @@
 //! A client's connection, whose reads and writes end if it is idle for too long and another waits.
 
-use crate::listener::SharedListener;
+use crate::connections::{Connections, Port};
 use memchr::memchr;
-use server_state::{Reporter, Shared};
+use server_state::Reporter;
 use std::alloc::{AllocError, Global};
 use std::cell::Cell;
 use std::io::{self, ErrorKind, Read, Write};
@@ -26,9 +26,8 @@ pub(crate) fn is_timed(stream: &TcpStream) -> bool {
 #[derive(Drop)]
 pub(crate) struct Client<'a, R, T> {
     rt: &'a R,
-    shared: &'a Shared<T>,
-    listener: &'a SharedListener,
-    idle: Duration,
+    with: &'a Connections<T>,
+    port: &'a Port,
     stream: TcpStream,
     last: Cell<Option<Instant>>,
     /// The connection that it leaves its place to.
@@ -36,19 +35,17 @@ pub(crate) struct Client<'a, R, T> {
 }
 
 impl<'a, R: Wait + Clock, T: Reporter> Client<'a, R, T> {
-    /// A connection that was just taken, and has time-outs.
+    /// A connection to a port that was just taken, and has time-outs.
     pub fn new(
         rt: &'a R,
-        shared: &'a Shared<T>,
-        listener: &'a SharedListener,
-        idle: Duration,
+        with: &'a Connections<T>,
+        port: &'a Port,
         stream: TcpStream,
     ) -> Client<'a, R, T> {
         Client {
             rt,
-            shared,
-            listener,
-            idle,
+            with,
+            port,
             stream,
             last: Cell::new(Instant::now(rt).ok()),
             next: Mutex::new(None),
@@ -60,6 +57,11 @@ impl<'a, R: Wait + Clock, T: Reporter> Client<'a, R, T> {
         self.next.lock(self.rt).take()
     }
 
+    /// The connection.
+    pub fn into_stream(self) -> TcpStream {
+        self.stream
+    }
+
     /// Whether its next line is read: it is served further, no client has quit, and the server has not stopped.
     pub fn reads_on(&self) -> bool {
         !self.is_last() && self.goes_on()
@@ -67,12 +69,12 @@ impl<'a, R: Wait + Clock, T: Reporter> Client<'a, R, T> {
 
     /// Whether the line that is answered is the last one: a client has quit, or the server has stopped.
     fn is_last(&self) -> bool {
-        self.listener.is_closed() || self.shared.has_stopped()
+        self.with.ending.is_closed() || self.with.shared.has_stopped()
     }
 
     /// The answer to the line `images`.
     pub fn images_text(&self, alloc: Global) -> Result<String, AllocError> {
-        self.shared.images_text(self.rt, alloc)
+        self.with.shared.images_text(self.rt, alloc)
     }
 
     /// It is not idle now.
@@ -82,14 +84,14 @@ impl<'a, R: Wait + Clock, T: Reporter> Client<'a, R, T> {
 
     /// Whether it is served further: the server does not end, and it does not leave its place.
     fn goes_on(&self) -> bool {
-        !self.shared.has_ended() && !self.leaves_place()
+        !self.with.shared.has_ended() && !self.leaves_place()
     }
 
     /// Whether it leaves its place to a connection that waits: it was idle for too long, and all places are taken.
     fn leaves_place(&self) -> bool {
         let mut next = self.next.lock(self.rt);
         if next.is_none() && self.is_idle() {
-            *next = self.listener.take_waiting();
+            *next = self.port.listener.take_waiting();
         }
         next.is_some()
     }
@@ -97,7 +99,7 @@ impl<'a, R: Wait + Clock, T: Reporter> Client<'a, R, T> {
     /// Whether it was idle for too long. Where the clock can't be read it was not.
     fn is_idle(&self) -> bool {
         match (self.last.get(), Instant::now(self.rt)) {
-            (Some(last), Ok(now)) => now.duration_since(last) > self.idle,
+            (Some(last), Ok(now)) => now.duration_since(last) > self.port.options.idle,
             _ => false,
         }
     }
@@ -158,6 +160,6 @@ impl<R: Wait + Clock, T: Reporter> Write for ClientWriter<'_, R, T> {
 }
 
 /// Whether a read or a write has only waited as long as it may at once.
-fn is_late(error: &io::Error) -> bool {
+pub(crate) fn is_late(error: &io::Error) -> bool {
     error.kind() == ErrorKind::WouldBlock
 }

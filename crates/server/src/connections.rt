@@ -1,16 +1,22 @@
 //! Connections, one after another, and their lines. docs/SERVING.md, "Control lines".
 
-ghost use Rattle.std.specs.Prelude.{◌≡◌, ◌↔◌, IfErr, IsSome, IsTrue, OnOk};
-ghost use Rattle.tool_core.specs.Answering.{AnswersFirstLines, AnswersLines, EndsEarly};
+ghost use Rattle.std.specs.Prelude.{◌≡◌, ◌<◌, ◌↔◌, ◌⊎◌, Err, IfErr, IsFalse, IsSome, IsTrue, OnOk, false, true};
+ghost use Rattle.std.specs.Io.KnownBytes.{Appends};
+ghost use Rattle.frame_core.specs.declared.refusal.Refusal.TheVariants.{BadLine};
+ghost use Rattle.tool_core.specs.Answering.{AnswersFirstLines, AnswersLines, EndsEarly, outcome_text};
 ghost use Rattle.tool_core.specs.Transcript.{WritesText};
 
 use crate::client::{Client, ClientReader, ClientWriter, is_timed};
+use crate::consumer_reader::ConsumerReader;
+use crate::first_bytes::FirstBytes;
+use crate::followers::{Claim, Followers};
 use crate::line_reader::LineReader;
-use crate::listener::SharedListener;
+use crate::listener::{Ending, SharedListener};
 use crate::options::ServeOptions;
 use crate::place::Places;
-use crate::script_reader::ScriptReader;
+use crate::script_reader::{LONGEST_FOLLOW, OwnLines, ScriptReader};
 use archive_model::Reply;
+use control_lines::{FollowFields, Line, parse_line, print_following, print_refusal};
 use frame_core::Refusal;
 use server_state::{Reporter, Shared};
 use std::alloc::Global;
@@ -19,7 +25,7 @@ use std::net::{TcpStream, UdpSocket};
 use std::rt::Clock;
 use std::sync::Wait;
 use std::time::Duration;
-use tool_core::{Answerer, EarlyEnd, Observer, ScriptState, answer_lines};
+use tool_core::{Answerer, EarlyEnd, Observer, ScriptState, answer_lines, write_outcome};
 
 /// Bytes of replies that are written at once at most, but for longer texts.
 const WRITTEN_AT_ONCE: usize = 65_536;
@@ -43,26 +49,68 @@ pub(crate) struct ClientOptions {
     pub idle: Duration,
     /// Whether the line `images` is answered.
     pub lists_images: bool,
+    /// Whether the line `follow` is answered.
+    pub follows: bool,
     /// Whether the replays that a connection leaves open are closed.
     pub closes_replays: bool,
     /// Whether one client is served at a time. Its merge goes on in the next connection.
     pub is_single: bool,
+    /// Whether the line `checkpoint` is answered.
+    pub offers_checkpoints: bool,
+    /// Whether clients only read: no other line is answered, and `quit` ends their own connection alone.
+    pub only_reads: bool,
 }
 
 impl ClientOptions {
-    /// That of these options, for so many clients.
+    /// Those of the control port by these options, for so many clients and followers.
     pub fn of(options: &ServeOptions<'_>, places: &Places) -> ClientOptions
         ensures closes { IsTrue result.closes_replays ↔ IsSome options.now.clients }
-        ensures single { IsTrue result.is_single ↔ (places.now.count ≡ 1) }
+        ensures single { IsTrue result.is_single ↔ (places.now.clients ≡ 1) }
         ensures images { IsTrue result.lists_images ↔ IsSome options.now.window }
+        ensures follows { IsTrue result.follows ↔ ((0 < places.now.followers)
+            × (IsTrue result.lists_images ⊎ IsFalse result.is_single)) }
+        ensures checkpoints { result.offers_checkpoints ≡ options.now.makes_checkpoints }
+        ensures reads { result.only_reads ≡ false }
+    {
+        let lists_images = options.window.is_some();
+        let is_single = places.clients == 1;
+        ClientOptions {
+            idle: Duration::from_secs(options.idle_seconds),
+            lists_images,
+            follows: places.followers > 0 && (lists_images || !is_single),
+            closes_replays: options.clients.is_some(),
+            is_single,
+            offers_checkpoints: options.makes_checkpoints,
+            only_reads: false,
+        }
+    }
+
+    /// Those of the port of consumers by these options, for so many followers.
+    pub fn of_consumers(options: &ServeOptions<'_>, places: &Places) -> ClientOptions
+        ensures closes { result.closes_replays ≡ true }
+        ensures single { result.is_single ≡ false }
+        ensures images { IsTrue result.lists_images ↔ IsSome options.now.window }
+        ensures follows { IsTrue result.follows ↔ (0 < places.now.followers) }
+        ensures checkpoints { result.offers_checkpoints ≡ false }
+        ensures reads { result.only_reads ≡ true }
     {
         ClientOptions {
             idle: Duration::from_secs(options.idle_seconds),
             lists_images: options.window.is_some(),
-            closes_replays: options.clients.is_some(),
-            is_single: places.count == 1,
+            follows: places.followers > 0,
+            closes_replays: true,
+            is_single: false,
+            offers_checkpoints: false,
+            only_reads: true,
         }
     }
+}
+
+/// A port that lines come to, and how its clients are served.
+#[derive(Drop)]
+pub(crate) struct Port {
+    pub listener: SharedListener,
+    pub options: ClientOptions,
 }
 
 /// What the threads that serve connections share.
@@ -72,8 +120,52 @@ pub(crate) struct Connections<T> {
     pub shared: Shared<T>,
     /// Where datagrams come to.
     pub socket: UdpSocket,
-    pub listener: SharedListener,
-    pub options: ClientOptions,
+    pub ending: Ending,
+    /// Where control lines come to.
+    pub control: Port,
+    /// Where lines of clients come to that only read, if such clients are served.
+    pub consumers: Option<Port>,
+    /// How many clients are served at a time, and how many followers.
+    pub places: Places,
+    /// Connections that are sent frames.
+    pub followers: Followers,
+}
+
+impl<T: Reporter> Connections<T> {
+    /// Whether serving has ended.
+    pub fn has_ended(&self) -> bool {
+        self.ending.has_ended(&self.shared)
+    }
+
+    /// The port whose connections a client's thread of this index serves: those of the first ones serve the control port's.
+    pub fn port_of(&self, index: usize) -> &Port {
+        match &self.consumers {
+            Some(port) if index >= self.places.clients => port,
+            _ => &self.control,
+        }
+    }
+}
+
+/// How the lines of a connection ended.
+#[derive(Clone, Copy)]
+enum ConnectionEnd {
+    /// One quit.
+    Quits,
+    /// The client ended or failed, or is served no further.
+    Ended,
+    /// The client is sent frames from now on.
+    Follows(Claim),
+}
+
+impl ConnectionEnd {
+    /// That of lines of which one quit, or none.
+    fn of(has_quit: bool) -> ConnectionEnd {
+        if has_quit {
+            ConnectionEnd::Quits
+        } else {
+            ConnectionEnd::Ended
+        }
+    }
 }
 
 /// Sees whether a line quits.
@@ -90,34 +182,37 @@ impl Observer for QuitObserver {
     }
 }
 
-/// Serves connections, one after another, until the server ends. It ends if a line quits. If one client is served at a time,
-/// the lines of each go on from the merge that those before it left.
+/// Serves connections of a port, one after another, until the server ends. It ends if a line at the control port quits. If one
+/// client is served at a time, the lines of each go on from the merge that those before it left.
 pub(crate) fn serve_connections<R: Wait + Clock, T: Reporter, S: Server + Drop>(
     rt: &R,
     with: &Connections<T>,
+    port: &Port,
     server: S,
 ) -> S {
     let mut state = ScriptState::new(server);
     let mut waiting = None;
     for _ in rt.forever() {
-        let Some(stream) = with.listener.next(rt, &with.shared, waiting) else {
+        let taken = port.listener.next(rt, &with.shared, &with.ending, waiting);
+        let Some(stream) = taken else {
             return state.into_archive();
         };
-        let (after, next) = serve_stream(rt, with, stream, state);
+        let (after, next) = serve_stream(rt, with, port, stream, state);
         state = after;
         waiting = next;
         if waiting.is_none() {
-            with.listener.leave();
+            port.listener.leave();
         }
     }
     unreachable!()
 }
 
-/// Serves a connection that was taken, and ends serving if a line quits. The connection that its place goes to, if it was
-/// idle for too long and that one waits.
-fn serve_stream<R: Wait + Clock, T: Reporter, S: Server + Drop>(
-    rt: &R,
-    with: &Connections<T>,
+/// Serves a connection that was taken, and ends serving if a line quits, but for one of a client that only reads. The connection
+/// that its place goes to, if it was idle for too long and that one waits.
+fn serve_stream<'x, R: Wait + Clock, T: Reporter, S: Server + Drop>(
+    rt: &'x R,
+    with: &'x Connections<T>,
+    port: &'x Port,
     stream: TcpStream,
     state: ScriptState<S>,
 ) -> (ScriptState<S>, Option<TcpStream>) {
@@ -125,49 +220,90 @@ fn serve_stream<R: Wait + Clock, T: Reporter, S: Server + Drop>(
     if !is_timed(&stream) {
         return (state, None);
     }
-    let client = Client::new(rt, &with.shared, &with.listener, with.options.idle, stream);
-    let (mut state, has_quit) = serve_client(with.alloc, &client, &with.options, state);
-    if has_quit {
-        with.listener.close(rt, Ok(()));
+    let client = Client::new(rt, with, port, stream);
+    let (mut state, end) = serve_client(rt, with, port, &client, state);
+    if matches!(end, ConnectionEnd::Quits) && !port.options.only_reads {
+        with.ending.close(rt, Ok(()));
     }
     state
         .archive
-        .end_connection(with.alloc, with.options.closes_replays);
-    if !with.options.is_single {
+        .end_connection(with.alloc, port.options.closes_replays);
+    if !port.options.is_single {
         state.merge = None;
     }
-    (state, client.take_next())
-}
-
-/// Answers the lines of a client until one quits, the client ends or fails, or is served no further. Whether one quit.
-fn serve_client<R: Wait + Clock, T: Reporter, S: Answerer>(
-    alloc: Global,
-    client: &Client<'_, R, T>,
-    options: &ClientOptions,
-    state: ScriptState<S>,
-) -> (ScriptState<S>, bool) {
-    let writer = ClientWriter(client);
-    let Ok(mut writer) = BufWriter::with_capacity(alloc, WRITTEN_AT_ONCE, writer) else {
-        return (state, false);
-    };
-    if options.lists_images {
-        return serve_scripts(alloc, client, options, &mut writer, state);
+    let next = client.take_next();
+    if let ConnectionEnd::Follows(claim) = end {
+        with.followers.hand(rt, &claim, client.into_stream());
     }
-    let reader = ClientReader(client);
-    let (state, _, has_quit) = answer_script(alloc, client, options, reader, &mut writer, state);
-    (state, has_quit)
+    (state, next)
 }
 
-/// Answers the lines of a client as `serve_client`, and a line `images` between them by the images.
-fn serve_scripts<R: Wait + Clock, T: Reporter, W: Write, S: Answerer>(
-    alloc: Global,
+/// Answers the lines of a client until one quits or follows, the client ends or fails, or is served no further. How they ended.
+/// If its first bytes are another protocol's, that is answered, and nothing more of it is read.
+fn serve_client<R: Wait + Clock, T: Reporter, S: Answerer>(
+    rt: &R,
+    with: &Connections<T>,
+    port: &Port,
     client: &Client<'_, R, T>,
+    state: ScriptState<S>,
+) -> (ScriptState<S>, ConnectionEnd) {
+    let writer = ClientWriter(client);
+    let Ok(mut writer) = BufWriter::with_capacity(with.alloc, WRITTEN_AT_ONCE, writer) else {
+        return (state, ConnectionEnd::Ended);
+    };
+    let mut reader = FirstBytes::new(ClientReader(client));
+    match reader.are_foreign() {
+        Ok(false) => {}
+        Ok(true) => {
+            let _ = refuse(with.alloc, &mut writer).is_ok() && writer.flush().is_ok();
+            return (state, ConnectionEnd::Ended);
+        }
+        Err(_) => return (state, ConnectionEnd::Ended),
+    }
+    if !port.options.only_reads {
+        return serve_reader(rt, with, &port.options, client, reader, &mut writer, state);
+    }
+    match ConsumerReader::new(with.alloc, reader) {
+        Ok(reader) => serve_reader(rt, with, &port.options, client, reader, &mut writer, state),
+        Err(_) => (state, ConnectionEnd::Ended),
+    }
+}
+
+/// Answers the lines that a reader gives of a client, as `serve_client`.
+fn serve_reader<R: Wait + Clock, T: Reporter, I: Read + Drop, W: Write, S: Answerer>(
+    rt: &R,
+    with: &Connections<T>,
     options: &ClientOptions,
+    client: &Client<'_, R, T>,
+    reader: I,
     writer: &mut W,
     state: ScriptState<S>,
-) -> (ScriptState<S>, bool) {
-    let Ok(mut reader) = ScriptReader::new(alloc, ClientReader(client)) else {
-        return (state, false);
+) -> (ScriptState<S>, ConnectionEnd) {
+    if options.lists_images || options.follows {
+        return serve_scripts(rt, with, options, client, reader, writer, state);
+    }
+    let (state, _, has_quit) = answer_script(with.alloc, client, options, reader, writer, state);
+    (state, ConnectionEnd::of(has_quit))
+}
+
+/// Answers the lines of a client as `serve_reader`, a line `images` between them by the images, and a line `follow` by a
+/// replay whose frames the client is sent.
+fn serve_scripts<R: Wait + Clock, T: Reporter, I: Read + Drop, W: Write, S: Answerer>(
+    rt: &R,
+    with: &Connections<T>,
+    options: &ClientOptions,
+    client: &Client<'_, R, T>,
+    reader: I,
+    writer: &mut W,
+    state: ScriptState<S>,
+) -> (ScriptState<S>, ConnectionEnd) {
+    let alloc = with.alloc;
+    let taken = OwnLines {
+        images: options.lists_images,
+        follow: options.follows,
+    };
+    let Ok(mut reader) = ScriptReader::new(alloc, reader, taken) else {
+        return (state, ConnectionEnd::Ended);
     };
     let mut state = state;
     for _ in 0..u64::MAX {
@@ -180,14 +316,86 @@ fn serve_scripts<R: Wait + Clock, T: Reporter, W: Write, S: Answerer>(
             state,
         );
         state = next;
-        if has_quit || !goes_on || !client.reads_on() || !reader.takes_images() {
-            return (state, has_quit);
+        if has_quit || !goes_on || !client.reads_on() {
+            return (state, ConnectionEnd::of(has_quit));
         }
-        if !put_images(alloc, client, writer) {
-            return (state, false);
+        if let Some(end) = answer_own(rt, with, client, &mut reader, writer) {
+            return (state, end);
         }
     }
-    (state, false)
+    (state, ConnectionEnd::Ended)
+}
+
+/// Answers the line `images` or `follow`, if one of them comes next. How the lines end, if they do.
+fn answer_own<R: Wait + Clock, T: Reporter, I: Read, W: Write>(
+    rt: &R,
+    with: &Connections<T>,
+    client: &Client<'_, R, T>,
+    reader: &mut ScriptReader<I>,
+    writer: &mut W,
+) -> Option<ConnectionEnd> {
+    if reader.takes_images() {
+        return if put_images(with.alloc, client, writer) {
+            None
+        } else {
+            Some(ConnectionEnd::Ended)
+        };
+    }
+    let mut line = [0; LONGEST_FOLLOW];
+    let count = reader.take_follow(&mut line);
+    if count == 0 {
+        return Some(ConnectionEnd::Ended);
+    }
+    match asked_by(with.alloc, &line[..count]) {
+        Ok(fields) => answer_follow(rt, with, &fields, writer),
+        Err(refusal) => put_refusal(&refusal, writer),
+    }
+}
+
+/// What a line asks for that begins with `follow`.
+fn asked_by(alloc: Global, line: &[u8]) -> Result<FollowFields, Refusal> {
+    let line = line.strip_suffix(b"\n").unwrap_or(line);
+    match parse_line(alloc, line)? {
+        Line::Follow(fields) => Ok(fields),
+        _ => Err(Refusal::BadLine),
+    }
+}
+
+/// Answers the line `follow`. How the lines end, if they do: the client is sent frames from then on, or the answer did not go
+/// out.
+fn answer_follow<R: Wait + Clock, T: Reporter, W: Write>(
+    rt: &R,
+    with: &Connections<T>,
+    fields: &FollowFields,
+    writer: &mut W,
+) -> Option<ConnectionEnd> {
+    let (claim, position) = match with.followers.ask(rt, fields) {
+        Ok(asked) => asked,
+        Err(refusal) => return put_refusal(&refusal, writer),
+    };
+    if put_following(with.alloc, position, writer) {
+        return Some(ConnectionEnd::Follows(claim));
+    }
+    with.followers.give_up(rt, &claim);
+    Some(ConnectionEnd::Ended)
+}
+
+/// Writes the line behind which frames come. Whether it went out.
+fn put_following<W: Write>(alloc: Global, position: i64, writer: &mut W) -> bool {
+    match print_following(alloc, position) {
+        Ok(text) => writer.write_all(text.as_slice()).is_ok() && writer.flush().is_ok(),
+        Err(_) => false,
+    }
+}
+
+/// Writes a refusal's line. How the lines end, if it did not go out.
+fn put_refusal<W: Write>(refusal: &Refusal, writer: &mut W) -> Option<ConnectionEnd> {
+    let line = print_refusal(refusal);
+    if writer.write_all(line.as_bytes()).is_ok() && writer.flush().is_ok() {
+        None
+    } else {
+        Some(ConnectionEnd::Ended)
+    }
 }
 
 /// Answers the lines that a reader gives of a client, a line at a time if others are served meanwhile. Whether all were
@@ -211,6 +419,13 @@ fn answer_script<R: Wait + Clock, T: Reporter, I: Read + Drop, W: Write, S: Answ
     (state, outcome.is_ok(), has_quit)
 }
 
+/// Writes the answer to a connection of another protocol.
+fn refuse<W: Write>(alloc: Global, writer: &mut W) -> Result<(), EarlyEnd>
+    ensures { OnOk result (Appends (W.contents writer.old) (W.contents writer.new) (outcome_text (Err BadLine))) }
+{
+    write_outcome(alloc, &Err(Refusal::BadLine), writer)
+}
+
 /// Writes the answer to the line `images`. Whether it went out.
 fn put_images<R: Wait + Clock, T: Reporter, W: Write>(
     alloc: Global,
@@ -231,8 +446,8 @@ fn answer_client<R: Read + Drop, W: Write, S: Answerer>(
     state: ScriptState<S>,
 ) -> (ScriptState<S>, Result<(), EarlyEnd>, bool)
     ensures whole { OnOk result.1 (WritesText (R.remaining reader) (W.contents writer.old) (W.contents writer.new)
-        (AnswersLines S.ways state result.0)) }
-    ensures early { IfErr result.1 (λ end. EndsEarly end (AnswersFirstLines S.ways state result.0)
+        (AnswersLines S.ways S.checkpoints state result.0)) }
+    ensures early { IfErr result.1 (λ end. EndsEarly end (AnswersFirstLines S.ways S.checkpoints state result.0)
         (R.remaining reader) (W.contents writer.old) (W.contents writer.new)) }
 {
     let mut observer = QuitObserver { has_quit: false };

@@ -5,19 +5,32 @@ mod answering;
 mod client;
 mod clients;
 mod connections;
+mod consumer;
+mod consumer_reader;
+mod ends;
+mod first_bytes;
+mod followed_stream;
+mod follower_connection;
+mod followers;
+mod following;
 mod line_reader;
 mod listener;
+mod openings;
 mod options;
 mod place;
+mod pushing;
 mod script_reader;
 mod served;
 mod serving;
 mod unopened;
 
+pub use ends::Ends;
+pub use openings::Openings;
 pub use options::{IDLE_SECONDS, SEGMENT_LENGTH, SETTLE_EVERY, ServeOptions};
 pub use served::{Served, Stuck};
+pub use server_recorder::{Flusher, Unflushed};
 pub use server_state::{
-    ArchiveNews, ClientNews, Counted, Happening, ImageCounted, ImageNews, LineReporter, Reporter,
-    SessionNews, Unreported,
+    ArchiveNews, ClientNews, Counted, GapNews, Happening, HoleCause, ImageCounted, ImageNews,
+    LineReporter, Reporter, ResumeNews, SessionNews, Unreported,
 };
-pub use serving::{serve_on, serve_with};
+pub use serving::{serve_flushing, serve_on, serve_with};

@@ -1,6 +1,5 @@
-//! The listener, the connections that wait there, and the end of serving.
+//! Listeners, the connections that wait there, and the end of serving.
 
-use crate::place::Places;
 use server_state::{Reporter, Shared};
 use std::io::{self, ErrorKind};
 use std::net::{SocketAddr, TcpListener, TcpStream};
@@ -14,77 +13,20 @@ use tool_core::EarlyEnd;
 /// Milliseconds between two looks for a connection.
 const LOOK: u64 = 10;
 
-/// A listener that does not wait, which the threads that serve clients share.
+/// The end of serving, which all listeners of a server share.
 #[derive(Drop)]
-pub(crate) struct SharedListener {
-    listener: TcpListener,
-    /// How many more clients can be served now.
-    free: AtomicU64,
-    /// Of the threads that have no client one looks for a connection, and the others wait for it.
-    turn: Mutex<()>,
+pub(crate) struct Ending {
     is_closed: AtomicBool,
     /// How serving ended.
     end: Mutex<Option<Result<(), EarlyEnd>>>,
 }
 
-/// What a look for a connection found.
-#[derive(Drop)]
-enum Found {
-    Connection(TcpStream),
-    Nobody,
-    Failed,
-}
-
-impl SharedListener {
-    /// The listener for so many clients. It is closed by `Read` if it can't be asked without waiting.
-    pub fn new<R: Wait>(rt: &R, listener: TcpListener, places: &Places) -> SharedListener {
-        let is_ready = listener.set_nonblocking(true).is_ok();
-        let shared = SharedListener {
-            listener,
-            free: AtomicU64::new(places.count as u64),
-            turn: Mutex::new(()),
+impl Ending {
+    /// Serving has not ended.
+    pub fn new() -> Ending {
+        Ending {
             is_closed: AtomicBool::new(false),
             end: Mutex::new(None),
-        };
-        if !is_ready {
-            shared.close(rt, Err(EarlyEnd::Read));
-        }
-        shared
-    }
-
-    /// Where connections come to.
-    pub fn address(&self) -> io::Result<SocketAddr> {
-        self.listener.local_addr()
-    }
-
-    /// The next connection, which takes a place: `waiting` if there is one, whose place is taken. None if the server ends.
-    pub fn next<R: Wait + Clock, T: Reporter>(
-        &self,
-        rt: &R,
-        shared: &Shared<T>,
-        waiting: Option<TcpStream>,
-    ) -> Option<TcpStream> {
-        if waiting.is_some() && !self.has_ended(shared) {
-            return waiting;
-        }
-        let stream = self.watch(rt, shared)?;
-        self.free.fetch_sub(1, Ordering::SeqCst);
-        Some(stream)
-    }
-
-    /// A client has left, and its place is free.
-    pub fn leave(&self) {
-        self.free.fetch_add(1, Ordering::SeqCst);
-    }
-
-    /// The connection that waits, if there is one and all places are taken. The caller's client leaves it its place.
-    pub fn take_waiting(&self) -> Option<TcpStream> {
-        if self.free.load(Ordering::SeqCst) > 0 {
-            return None;
-        }
-        match self.look() {
-            Found::Connection(stream) => Some(stream),
-            _ => None,
         }
     }
 
@@ -109,22 +51,102 @@ impl SharedListener {
         }
     }
 
-    fn has_ended<T: Reporter>(&self, shared: &Shared<T>) -> bool {
+    /// Whether serving has ended, whatever ended it.
+    pub fn has_ended<T: Reporter>(&self, shared: &Shared<T>) -> bool {
         self.is_closed() || shared.has_stopped() || shared.has_ended()
+    }
+}
+
+/// A listener that does not wait, which the threads that serve its clients share.
+#[derive(Drop)]
+pub(crate) struct SharedListener {
+    listener: TcpListener,
+    /// How many more clients can be served now.
+    free: AtomicU64,
+    /// Of the threads that have no client one looks for a connection, and the others wait for it.
+    turn: Mutex<()>,
+}
+
+/// What a look for a connection found.
+#[derive(Drop)]
+enum Found {
+    Connection(TcpStream),
+    Nobody,
+    Failed,
+}
+
+impl SharedListener {
+    /// The listener for so many clients. Serving ends by `Read` if it can't be asked without waiting.
+    pub fn new<R: Wait>(
+        rt: &R,
+        listener: TcpListener,
+        clients: usize,
+        ending: &Ending,
+    ) -> SharedListener {
+        if listener.set_nonblocking(true).is_err() {
+            ending.close(rt, Err(EarlyEnd::Read));
+        }
+        SharedListener {
+            listener,
+            free: AtomicU64::new(clients as u64),
+            turn: Mutex::new(()),
+        }
+    }
+
+    /// Where connections come to.
+    pub fn address(&self) -> io::Result<SocketAddr> {
+        self.listener.local_addr()
+    }
+
+    /// The next connection, which takes a place: `waiting` if there is one, whose place is taken. None if the server ends.
+    pub fn next<R: Wait + Clock, T: Reporter>(
+        &self,
+        rt: &R,
+        shared: &Shared<T>,
+        ending: &Ending,
+        waiting: Option<TcpStream>,
+    ) -> Option<TcpStream> {
+        if waiting.is_some() && !ending.has_ended(shared) {
+            return waiting;
+        }
+        let stream = self.watch(rt, shared, ending)?;
+        self.free.fetch_sub(1, Ordering::SeqCst);
+        Some(stream)
+    }
+
+    /// A client has left, and its place is free.
+    pub fn leave(&self) {
+        self.free.fetch_add(1, Ordering::SeqCst);
+    }
+
+    /// The connection that waits, if there is one and all places are taken. The caller's client leaves it its place.
+    pub fn take_waiting(&self) -> Option<TcpStream> {
+        if self.free.load(Ordering::SeqCst) > 0 {
+            return None;
+        }
+        match self.look() {
+            Found::Connection(stream) => Some(stream),
+            _ => None,
+        }
     }
 
     /// Looks for a connection until one comes. None if the server ends, or the listener fails, which ends it.
-    fn watch<R: Wait + Clock, T: Reporter>(&self, rt: &R, shared: &Shared<T>) -> Option<TcpStream> {
+    fn watch<R: Wait + Clock, T: Reporter>(
+        &self,
+        rt: &R,
+        shared: &Shared<T>,
+        ending: &Ending,
+    ) -> Option<TcpStream> {
         let _turn = self.turn.lock(rt);
         for _ in rt.forever() {
-            if self.has_ended(shared) {
+            if ending.has_ended(shared) {
                 return None;
             }
             match self.look() {
                 Found::Connection(stream) => return Some(stream),
                 Found::Nobody => thread::sleep(rt, Duration::from_millis(LOOK)),
                 Found::Failed => {
-                    self.close(rt, Err(EarlyEnd::Read));
+                    ending.close(rt, Err(EarlyEnd::Read));
                     return None;
                 }
             }

@@ -34,12 +34,16 @@ pub struct ServeOptions<'a> {
     pub is_strict: bool,
     /// Whether the reporter gets each second what is measured of the server.
     pub is_measured: bool,
+    /// Whether the server makes checkpoints, after a settle or a command that leaves one due, and answers the line `checkpoint`.
+    pub makes_checkpoints: bool,
+    /// Whether it makes one before its first line, if it makes any: an entry counts, or the catalogue's bank is of version 1.
+    pub begins_short: bool,
 }
 
 impl<'a> ServeOptions<'a> {
     /// A client may be idle for 60 seconds while another waits, a block waits for 5 milliseconds at most, no status message is
-    /// sent, one client is served at a time, nothing is recorded without being asked, the server is not strict, and nothing is
-    /// measured.
+    /// sent, one client is served at a time, nothing is recorded without being asked, the server is not strict, nothing is
+    /// measured, and no checkpoint is made.
     pub fn new() -> ServeOptions<'a>
         ensures times { (result.idle_seconds ≡ 60) × (result.settle_every ≡ 5) }
         ensures receiver { (result.window ≡ None) × (result.receiver_id ≡ pos 0) }
@@ -47,6 +51,7 @@ impl<'a> ServeOptions<'a> {
         ensures streams { (result.streams.now ≡ []) × (result.segment_length ≡ pos 134217728) }
         ensures strict { result.is_strict ≡ false }
         ensures measured { result.is_measured ≡ false }
+        ensures checkpoints { (result.makes_checkpoints ≡ false) × (result.begins_short ≡ false) }
     {
         ServeOptions {
             idle_seconds: IDLE_SECONDS,
@@ -58,6 +63,8 @@ impl<'a> ServeOptions<'a> {
             segment_length: SEGMENT_LENGTH,
             is_strict: false,
             is_measured: false,
+            makes_checkpoints: false,
+            begins_short: false,
         }
     }
 }

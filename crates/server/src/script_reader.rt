@@ -1,20 +1,37 @@
-//! What a client sends up to the line `images`, which control lines don't have. docs/SERVING.md, "Which images there are".
+//! What a client sends up to a line `images` or `follow`, which the server answers by itself. docs/SERVING.md, "Which images there
+//! are" and "Consumers".
 
-ghost use Rattle.std.specs.Prelude.{◌≡◌, ◌≤◌, bytes_eq, codes, length, vec_len};
-ghost use Rattle.server.specs.ImagesLine.{is_images, may_be_images, script_length};
+ghost use Rattle.std.specs.Prelude.{◌≡◌, ◌≤◌, ◌==◌, bytes_eq, codes, length, take, vec_len};
+ghost use Rattle.std.specs.List.{list_any};
+ghost use Rattle.server.specs.OwnLines.{ends_soon, is_follow, is_images, may_be_follow, may_be_images, may_be_own, may_grow, script_length};
 
+use memchr::memchr;
 use std::alloc::{AllocError, Global};
 use std::io::{self, Read};
 
 /// The line that asks for the images.
 const IMAGES: &[u8; 7] = b"images\n";
+/// How a line begins that asks for frames.
+const FOLLOW: &[u8; 7] = b"follow ";
+/// Bytes of the longest such line, its end among them: a longer one is no control line.
+pub(crate) const LONGEST_FOLLOW: usize = 70;
 /// Bytes that are read at once at most.
 const READ_AHEAD: usize = 65_536;
 
-/// Reads a client's lines up to a line `images`; once that was passed over, those after it.
+/// Which lines the server answers by itself.
+#[derive(Clone, Copy, Debug, PartialEq, Eq)]
+pub(crate) struct OwnLines {
+    /// The line `images`.
+    pub images: bool,
+    /// Lines that begin with `follow`.
+    pub follow: bool,
+}
+
+/// Reads a client's lines up to one that the server answers by itself; once that was taken, those after it.
 #[derive(Drop)]
 pub(crate) struct ScriptReader<R> {
     reader: R,
+    own: OwnLines,
     buffer: Vec<u8>,
     /// Where the bytes that wait begin in the buffer.
     from: usize,
@@ -30,13 +47,14 @@ pub(crate) struct ScriptReader<R> {
 
 impl<R: Read> ScriptReader<R> {
     /// What a reader gives. Costs memory for 65,536 bytes.
-    pub fn new(alloc: Global, reader: R) -> Result<ScriptReader<R>, AllocError>
+    pub fn new(alloc: Global, reader: R, own: OwnLines) -> Result<ScriptReader<R>, AllocError>
     where
         R: Drop,
     {
         let buffer = vec![in alloc; 0; READ_AHEAD]?;
         Ok(ScriptReader {
             reader,
+            own,
             buffer,
             from: 0,
             to: 0,
@@ -60,7 +78,29 @@ impl<R: Read> ScriptReader<R> {
     }
 
     fn is_at_images(&self) -> bool {
-        self.begins_line && is_images(self.waiting(), self.has_ended)
+        self.own.images && self.begins_line && is_images(self.waiting(), self.has_ended)
+    }
+
+    fn is_at_follow(&self) -> bool {
+        self.own.follow && self.begins_line && is_follow(self.waiting(), self.has_ended)
+    }
+
+    /// Takes the line that comes next, if it begins with `follow`: how many bytes it has, its end among them, unless that is
+    /// missing. 0 if another one comes next.
+    pub fn take_follow(&mut self, line: &mut [u8; LONGEST_FOLLOW]) -> usize
+        ensures { result ≤ 70 }
+    {
+        if !self.is_at_follow() {
+            return 0;
+        }
+        let waiting = self.waiting();
+        let length = match memchr(b'\n', waiting) {
+            Some(end) => end + 1,
+            None => waiting.len(),
+        };
+        let count = self.give(length, line);
+        self.begins_line = true;
+        count
     }
 
     /// Reads further bytes after those that wait, which move to the front of the buffer.
@@ -93,11 +133,11 @@ impl<R: Read> ScriptReader<R> {
 impl<R: Read> Read for ScriptReader<R> {
     fn read(&mut self, buf: &mut [u8]) -> io::Result<usize> {
         for _ in 0..u64::MAX {
-            let count = script_length(self.waiting(), self.begins_line, self.has_ended);
+            let count = script_length(&self.own, self.waiting(), self.begins_line, self.has_ended);
             if count > 0 {
                 return Ok(self.give(count, buf));
             }
-            if self.has_ended || self.is_at_images() {
+            if self.has_ended || self.is_at_images() || self.is_at_follow() {
                 return Ok(0);
             }
             self.fill()?;
@@ -127,13 +167,74 @@ fn may_be_images(bytes: &[u8], has_ended: bool) -> bool
     is_images(bytes, has_ended) || (!has_ended && IMAGES.starts_with(bytes))
 }
 
-/// How many bytes stand before the line `images`, or before what may become it. Costs a step for each byte.
-fn script_length(bytes: &[u8], begins_line: bool, has_ended: bool) -> usize
-    ensures { result ≡ script_length has_ended begins_line bytes.now }
+/// Whether bytes begin with a line that begins with `follow`, and is short enough.
+fn is_follow(bytes: &[u8], has_ended: bool) -> bool
+    ensures { result ≡ is_follow has_ended bytes.now }
+{
+    bytes.starts_with(FOLLOW) && ends_soon(bytes, has_ended)
+}
+
+/// Whether a line that bytes begin with is short enough.
+fn ends_soon(bytes: &[u8], has_ended: bool) -> bool
+    ensures { result ≡ ends_soon has_ended bytes.now }
+{
+    has_line_end(front_of(bytes)) || (has_ended && bytes.len() <= LONGEST_FOLLOW)
+}
+
+/// The first 70 bytes, or all if there are not so many.
+fn front_of(bytes: &[u8]) -> &[u8]
+    ensures { result.now ≡ take 70 bytes.now }
+{
+    if bytes.len() <= LONGEST_FOLLOW {
+        bytes
+    } else {
+        &bytes[..LONGEST_FOLLOW]
+    }
+}
+
+/// Whether a line ends in bytes.
+fn has_line_end(bytes: &[u8]) -> bool
+    ensures { result ≡ list_any (λ b. b == 10) bytes.now }
+{
+    bytes.iter().any(|byte| is_line_end(byte))
+}
+
+fn is_line_end(byte: &u8) -> bool
+    ensures { result ≡ (byte.now == 10) }
+{
+    *byte == b'\n'
+}
+
+/// Whether bytes begin with such a line, or may once more of them come.
+fn may_be_follow(bytes: &[u8], has_ended: bool) -> bool
+    ensures { result ≡ may_be_follow has_ended bytes.now }
+{
+    is_follow(bytes, has_ended) || (!has_ended && may_grow(bytes))
+}
+
+/// Whether bytes may be the first of such a line.
+fn may_grow(bytes: &[u8]) -> bool
+    ensures { result ≡ may_grow bytes.now }
+{
+    bytes.len() < LONGEST_FOLLOW && (bytes.starts_with(FOLLOW) || FOLLOW.starts_with(bytes))
+}
+
+/// Whether bytes begin with a line that the server answers by itself, or may once more of them come.
+fn may_be_own(own: &OwnLines, bytes: &[u8], has_ended: bool) -> bool
+    ensures { result ≡ may_be_own own.now has_ended bytes.now }
+{
+    (own.images && may_be_images(bytes, has_ended))
+        || (own.follow && may_be_follow(bytes, has_ended))
+}
+
+/// How many bytes stand before a line that the server answers by itself, or before what may become one. Costs a step for each
+/// byte, and 70 for each that begins a line.
+fn script_length(own: &OwnLines, bytes: &[u8], begins_line: bool, has_ended: bool) -> usize
+    ensures { result ≡ script_length own.now has_ended begins_line bytes.now }
 {
     let mut begins_line = begins_line;
     for (at, byte) in bytes.iter().enumerate() {
-        if begins_line && may_be_images(&bytes[at..], has_ended) {
+        if begins_line && may_be_own(own, &bytes[at..], has_ended) {
             return at;
         }
         begins_line = *byte == b'\n';

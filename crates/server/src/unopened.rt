@@ -1,20 +1,25 @@
 //! Who answers where no archive is open. docs/SERVING.md, "Control lines".
 
-ghost use Rattle.server.specs.Answering.{unopened_ways};
+ghost use Rattle.server.specs.Answering.{offered_if, unopened_ways};
 
 use crate::connections::Server;
 use archive_model::Reply;
 use control_core::Event;
 use frame_core::{Geometry, Refusal};
 use std::alloc::Global;
-use tool_core::Answerer;
+use tool_core::{Answerer, CheckpointOutcome};
 
 /// No archive is open: calls are `Broken`, and `reopen` and `compact` are `BadLine`.
 #[derive(Clone, Copy, Drop)]
-pub(crate) struct Unopened;
+pub(crate) struct Unopened {
+    /// Whether the line `checkpoint` is one.
+    pub offers_checkpoints: bool,
+}
 
 impl Answerer for Unopened {
     ghost ways = { unopened_ways };
+
+    ghost checkpoints = { offered_if (λ unopened. unopened.offers_checkpoints) };
 
     fn terms(&mut self, session: &i64) -> Result<Geometry, Refusal> {
         let _ = session;
@@ -32,6 +37,14 @@ impl Answerer for Unopened {
 
     fn compact(self, _alloc: Global) -> (Unopened, Result<Reply, Refusal>) {
         (self, Err(Refusal::BadLine))
+    }
+
+    fn offers_checkpoints(&self) -> bool {
+        self.offers_checkpoints
+    }
+
+    fn prepare(&mut self, _alloc: Global) -> Option<CheckpointOutcome> {
+        None
     }
 }
 

@@ -5,3 +5,7 @@ pub mod Senders
 pub mod RecordedStreams
 -- What is measured of images.
 pub mod Metering
+-- Gaps that stand.
+pub mod Standing
+-- Images that resume.
+pub mod Resuming

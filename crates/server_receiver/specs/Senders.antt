@@ -1,8 +1,10 @@
 -- What the senders of images are sent by a receiver of the public standard: docs/PROTOCOL.md, "Status messages and NAKs of a
 -- receiver".
-use Rattle.std.specs.Prelude.{◌≡◌, ℕ, ℤ, Bool, false, if◌then◌else◌, MatchBool, List, [], ◌∷◌, ◌++◌, length, nat_lt, not, slice_get, slice_set, Option, None, Some, is_some}
+use Rattle.std.specs.Prelude.{◌≡◌, ℕ, ℤ, pos, Bool, false, if◌then◌else◌, MatchBool, List, [], ◌∷◌, ◌++◌, length, nat_lt, not, slice_get, slice_set, Option, None, Some, is_some}
+use Rattle.std.specs.Int.{int_min}
 use Rattle.std.specs.declared.net.socket_addr.SocketAddr.{SocketAddr}
 use Rattle.frame_core.specs.declared.block.Publication.{Publication}
+use Rattle.frame_core.specs.declared.geometry.Geometry.{Geometry}
 use Rattle.frame_core.specs.declared.nak.Nak.{Nak}
 use Rattle.frame_core.specs.declared.status.StatusMessage.{StatusMessage}
 use Rattle.frame_core.specs.Nak.{encoded_nak}
@@ -11,6 +13,7 @@ use Rattle.image_core.specs.Received.{Received}
 use Rattle.flow_control.specs.declared.feedback.Feedback.{Feedback}
 use Rattle.flow_control.specs.declared.setups.SetupRequest.{SetupRequest}
 use Rattle.flow_control.specs.Feedback.{GivesRequest, GivesStatus, has_passed, is_live, is_status_due}
+use Rattle.flow_control.specs.Windows.{five_sixteenths}
 use Rattle.flow_control.specs.Setups.{after_asking, may_ask, setup_request_of}
 use Rattle.server_receiver.specs.declared.senders.Receiver.{Receiver}
 use Rattle.server_receiver.specs.declared.senders.ImageSender.{ImageSender}
@@ -22,6 +25,10 @@ pub record SendersState : Type 0 where
   pub receiver : Receiver
   pub senders : List ImageSender
   pub setups : List SetupRequest
+
+-- The greatest window of a publication, in bytes: the receiver's, but at most five sixteenths of a term.
+abbrev pub most_for : Receiver → Geometry → ℤ
+most_for receiver g = int_min receiver.window (pos (five_sixteenths g))
 
 -- ---- where an image's datagrams come from
 
@@ -79,7 +86,7 @@ module _ {E : Type 0} (puts : E → SocketAddr → List ℕ → E → Type 0) wh
   abbrev pub SendsStatusDue : Bool → ℕ → Receiver → Received → SocketAddr → Feedback → E → Feedback → E → Type 0
   SendsStatusDue is_recorded now receiver image to old end new later =
       MatchBool is_recorded
-      ((status : Option StatusMessage) × GivesStatus now receiver.window None receiver.id image old status new × PutsStatus to status end later)
+      ((status : Option StatusMessage) × GivesStatus now (most_for receiver image.geometry) None receiver.id image old status new × PutsStatus to status end later)
       ((new ≡ old) × (later ≡ end))
 
   -- then the NAK that is due
@@ -124,11 +131,16 @@ module _ {E : Type 0} (puts : E → SocketAddr → List ℕ → E → Type 0) wh
   AsksForSetup came from now old end new later = (new ≡ old) × (later ≡ end)
 
 -- a status message is due to the sender of an image, if it is recorded
-abbrev pub is_status_due_to : Option ImageSender → ℕ → ℤ → Received → Bool
-is_status_due_to None now window image = false
-is_status_due_to (Some sender) now window image = is_status_due now window None image sender.feedback
+abbrev pub is_status_due_to : Option ImageSender → ℕ → Receiver → Received → Bool
+is_status_due_to None now receiver image = false
+is_status_due_to (Some sender) now receiver image = is_status_due now (most_for receiver image.geometry) None image sender.feedback
 
--- ---- what is given back
+-- ---- when a publication was heard, and what is given back
+
+-- when something of the publication of an image came last
+abbrev pub heard_of : Option ImageSender → ℕ
+heard_of None = 0
+heard_of (Some sender) = sender.feedback.heard
 
 -- the image at a place is not live: no datagram of its publication came for 10,000 milliseconds
 abbrev pub is_gone : ℕ → Option ImageSender → Bool

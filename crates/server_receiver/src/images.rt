@@ -7,15 +7,19 @@ ghost use Rattle.frame_core.specs.FrameEncoding.{frame_of};
 ghost use Rattle.frame_core.specs.Block.{AreEncodable, publication_of};
 ghost use Rattle.frame_core.specs.Setup.{IsUsable};
 ghost use Rattle.frame_core.specs.declared.refusal.Refusal.TheVariants.{NoMemory};
+ghost use Rattle.server_receiver.specs.Resuming.{HearsAt, HearsIn, HearsStand, ResumesBy, heartbeat_of};
 ghost use Rattle.server_receiver.specs.Datagrams.{AsksAfter, AsksOf, BegunBy, GivesNext, HandledAt, HandlesFrames, HandlesIn, HasNext, IsPlaced, Joins, JoinsBy, LacksBlock, SendsRequest, Takes, TakesNext, TakesFrames, has_block_of, has_publication, image_at, image_of, image_with, is_full_image, is_full_of, join_point, place_for_next, publication_of_setup, put_image, unknown_of, vacated_at};
 
 use frame_core::limits::MAX_BLOCK_LENGTH;
-use frame_core::{Block, FrameRef, Publication, Refusal, Setup, frames_of_datagram};
+use frame_core::{Block, FrameKind, FrameRef, Publication, Refusal, Setup, frames_of_datagram};
 use image_core::BoundedImage;
 use recorder_seats::DatagramEnd;
 use std::alloc::Global;
 use std::marker::Model;
 use stream_pairs::{MAX_IMAGES, Place, StreamPoint};
+
+/// The flags of a frame that is a whole message.
+const UNFRAGMENTED: u8 = 192;
 
 /// The images by their places, at most 64 at a time. To a contract they are what each received.
 #[derive(Drop)]
@@ -222,6 +226,42 @@ impl Images {
         }
     }
 
+    /// Makes an image of a setup frame as a datagram of it would. If it joined, it is told then that its publication stands where
+    /// another setup frame says.
+    pub fn resume(&mut self, begin: &Setup, stand: &Setup) -> DatagramOutcome
+        requires begins { IsUsable begin.now }
+        requires stands { IsUsable stand.now }
+        ensures { ResumesBy begin.now stand.now self.old self.new result }
+    {
+        let outcome = self.join(begin);
+        self.hear_stand(&outcome, stand);
+        outcome
+    }
+
+    /// An image that joined is told that its publication stands where a setup frame says.
+    fn hear_stand(&mut self, outcome: &DatagramOutcome, stand: &Setup)
+        requires { IsUsable stand.now }
+        ensures { HearsStand outcome.now (heartbeat_of stand.now) self.old self.new }
+    {
+        match outcome {
+            DatagramOutcome::Joined { place, point } => {
+                let _ = point;
+                self.hear(*place, stand);
+            }
+            _ => {}
+        }
+    }
+
+    /// The image at a place is told by a heartbeat that its publication stands where a setup frame says.
+    fn hear(&mut self, place: Place, stand: &Setup)
+        requires { IsUsable stand.now }
+        ensures { HearsAt place (heartbeat_of stand.now) self.old self.new }
+    {
+        if let Some(slot) = self.images.get_mut(place) {
+            hear(slot, stand);
+        }
+    }
+
     /// Makes an image of a setup frame, if its publication has none, and there is a place and memory for it.
     fn join(&mut self, setup: &Setup) -> DatagramOutcome
         requires { IsUsable setup.now }
@@ -383,6 +423,33 @@ fn offer(image: &mut BoundedImage, frames: &[FrameRef<'_>]) -> Result<bool, Refu
     match image.offer(frames) {
         Ok(inserted) => Ok(inserted.is_none()),
         Err(refusal) => Err(refusal),
+    }
+}
+
+/// The image at a place, if there is one, is told by a heartbeat that its publication stands where a setup frame says.
+fn hear(slot: &mut Option<BoundedImage>, stand: &Setup)
+    requires { IsUsable stand.now }
+    ensures { HearsIn slot.old (heartbeat_of stand.now) slot.new }
+{
+    if let Some(image) = slot {
+        let _ = offer(image, &[heartbeat_of(stand)]);
+    }
+}
+
+/// The heartbeat of a publication that stands where a setup frame says.
+fn heartbeat_of(setup: &Setup) -> FrameRef<'static>
+    ensures { frame_of result ≡ heartbeat_of setup.now }
+{
+    FrameRef {
+        kind: FrameKind::Heartbeat,
+        flags: UNFRAGMENTED,
+        length: 0,
+        term_offset: setup.term_offset,
+        session_id: setup.session_id,
+        stream_id: setup.stream_id,
+        term_id: setup.active_term_id,
+        reserved: 0,
+        payload: &[],
     }
 }
 

@@ -10,7 +10,11 @@ mod metering;
 mod receiving;
 mod recorded_streams;
 mod repeats;
+mod resuming;
+mod returning;
 mod senders;
+mod standing;
+mod unresumed;
 
 pub use images::{DatagramOutcome, Images};
 pub use receiving::{Reception, TENDING};

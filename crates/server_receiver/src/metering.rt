@@ -44,11 +44,16 @@ impl Metering {
     /// Notes a datagram: one that changed nothing, or one that came late or again.
     pub fn note(&mut self, outcome: &DatagramOutcome, datagram: &[u8], images: &Images) {
         match outcome {
-            DatagramOutcome::Joined { place, .. } => self.repeats.forget(*place),
+            DatagramOutcome::Joined { place, .. } => self.forget(*place),
             DatagramOutcome::SetUp { .. } => {}
             DatagramOutcome::Frames { place, .. } => self.note_frames(*place, datagram, images),
             _ => self.dropped = self.dropped.saturating_add(1),
         }
+    }
+
+    /// A new image is at a place.
+    pub fn forget(&mut self, place: Place) {
+        self.repeats.forget(place);
     }
 
     fn note_frames(&mut self, place: Place, datagram: &[u8], images: &Images) {

@@ -6,11 +6,14 @@ use crate::images::{DatagramOutcome, Images};
 use crate::leaving::Leaving;
 use crate::metering::Metering;
 use crate::recorded_streams::is_recorded_stream;
+use crate::resuming::ResumedImages;
 use crate::senders::Senders;
+use crate::standing::{GapTold, StandingGaps};
+use crate::unresumed::UnresumedPublications;
 use recorder_seats::DatagramEnd;
-use server_state::{Happening, ImageNews, Reporter, Shared, Stopwatch};
+use server_state::{GapNews, Happening, ImageNews, Reporter, Resumes, Shared, Stopwatch};
 use std::alloc::Global;
-use std::net::UdpSocket;
+use std::net::{SocketAddr, UdpSocket};
 use std::rt::Clock;
 use std::sync::Wait;
 use stream_pairs::{ImageNumber, Place, StreamPoint};
@@ -21,21 +24,23 @@ pub const TENDING: u64 = 10;
 const SEEING_OFF: u64 = 10;
 /// Milliseconds between two looks for images that wait to be recorded.
 const RECORDING: u64 = 1_000;
+/// Milliseconds between two looks for gaps that stand.
+const WATCHING: u64 = 1_000;
 
 /// What the thread that receives works with.
 #[derive(Drop)]
 pub struct Reception<'a, R, T> {
-    rt: &'a R,
+    pub(crate) rt: &'a R,
     alloc: Global,
-    shared: &'a Shared<T>,
+    pub(crate) shared: &'a Shared<T>,
     end: UdpEnd<'a>,
-    images: Images,
+    pub(crate) images: Images,
     /// The senders of images, if the server is a receiver of the public standard.
-    senders: Option<Senders>,
+    pub(crate) senders: Option<Senders>,
     /// Streams whose publications are recorded without being asked.
     streams: &'a [i32],
     /// Images that leave.
-    leaving: Leaving,
+    pub(crate) leaving: Leaving,
     watch: Stopwatch,
     /// When it is looked next for what is due to senders.
     tends_at: u64,
@@ -43,7 +48,15 @@ pub struct Reception<'a, R, T> {
     sees_off_at: u64,
     /// When it is looked next for images that wait to be recorded.
     records_at: u64,
-    metering: Metering,
+    /// Images that resume.
+    pub(crate) resumed: ResumedImages,
+    /// Publications that don't resume for a while.
+    pub(crate) unresumed: UnresumedPublications,
+    /// Gaps of images.
+    gaps: StandingGaps,
+    /// When it is looked next for gaps that stand.
+    watches_at: u64,
+    pub(crate) metering: Metering,
 }
 
 impl<'a, R: Wait + Clock, T: Reporter> Reception<'a, R, T> {
@@ -70,6 +83,10 @@ impl<'a, R: Wait + Clock, T: Reporter> Reception<'a, R, T> {
             tends_at: 0,
             sees_off_at: 0,
             records_at: 0,
+            resumed: ResumedImages::new(),
+            unresumed: UnresumedPublications::new(),
+            gaps: StandingGaps::new(),
+            watches_at: 0,
             metering: Metering::new(),
         }
     }
@@ -91,11 +108,13 @@ impl<'a, R: Wait + Clock, T: Reporter> Reception<'a, R, T> {
             self.take(&buffer[..count], now);
             let is_round = self.shared.takes_round();
             if is_round {
+                self.return_all(now);
                 first = give_round(self.rt, self.shared, &mut self.images, &self.leaving, first);
             }
             self.tend_by_time(is_round, now);
             self.see_off_by_time(now);
             self.record_by_time(now);
+            self.watch_gaps_by_time(now);
             self.measure_by_time(now);
         }
         give_all(self.rt, self.shared, &mut self.images, &self.leaving);
@@ -117,14 +136,15 @@ impl<'a, R: Wait + Clock, T: Reporter> Reception<'a, R, T> {
             return;
         }
         self.shared.counts.datagrams.add(1);
-        let outcome = self.images.take_datagram(datagram);
+        let mut outcome = self.images.take_datagram(datagram);
         if self.shared.meter.is_on() {
             self.metering.note(&outcome, datagram, &self.images);
         }
         match outcome {
             DatagramOutcome::Joined { place, point } => {
-                self.note_joined(point);
-                self.ask_to_record(place);
+                let (sender, resumes) = (self.end.sender(), self.resumes(&point, now));
+                self.note_joined(point, sender, resumes);
+                outcome = self.joined_outcome(place, outcome, now);
             }
             DatagramOutcome::Frames { place, is_lost } => self.note_frames(place, is_lost),
             _ => {}
@@ -136,9 +156,42 @@ impl<'a, R: Wait + Clock, T: Reporter> Reception<'a, R, T> {
         }
     }
 
-    fn note_joined(&mut self, point: StreamPoint) {
-        let sender = self.end.sender();
-        if let Some(joined) = self.shared.joined(self.rt, point, sender) {
+    /// What the setup frame of a new image came to: the image begins anew where an open session stands, or is to be recorded.
+    fn joined_outcome(
+        &mut self,
+        place: Place,
+        outcome: DatagramOutcome,
+        now: Option<u64>,
+    ) -> DatagramOutcome {
+        let returned = match now {
+            Some(now) => self.return_image(place, now),
+            None => None,
+        };
+        match returned {
+            Some(returned) => returned,
+            None => {
+                self.ask_to_record(place);
+                outcome
+            }
+        }
+    }
+
+    /// Whether a publication that joined may go on before its setup frame.
+    fn resumes(&self, point: &StreamPoint, now: Option<u64>) -> Resumes {
+        match now {
+            Some(now) => self.unresumed.resumes(&point.publication, now),
+            None => Resumes::NoRepeat,
+        }
+    }
+
+    /// An image joined.
+    pub(crate) fn note_joined(
+        &mut self,
+        point: StreamPoint,
+        sender: Option<SocketAddr>,
+        resumes: Resumes,
+    ) {
+        if let Some(joined) = self.shared.joined(self.rt, point, sender, resumes) {
             self.shared.report(&Happening::Image(ImageNews::Joined {
                 image: joined.number,
                 point,
@@ -266,6 +319,7 @@ impl<'a, R: Wait + Clock, T: Reporter> Reception<'a, R, T> {
         }
         self.sees_off_at = now.saturating_add(SEEING_OFF);
         for place in 0..self.images.len() {
+            self.follow_resumed(place, now);
             self.see_off(place, now);
         }
     }
@@ -281,6 +335,53 @@ impl<'a, R: Wait + Clock, T: Reporter> Reception<'a, R, T> {
         self.records_at = now.saturating_add(RECORDING);
         for place in 0..self.images.len() {
             self.ask_to_record(place);
+        }
+    }
+
+    /// Looks for gaps of images that stand, each second.
+    fn watch_gaps_by_time(&mut self, now: Option<u64>) {
+        let Some(now) = now else {
+            return;
+        };
+        if now < self.watches_at {
+            return;
+        }
+        self.watches_at = now.saturating_add(WATCHING);
+        for place in 0..self.images.len() {
+            self.watch_gap(place, now);
+        }
+    }
+
+    /// Reports that the first gap of an image stands, or that one is filled, if it is time for it.
+    fn watch_gap(&mut self, place: Place, now: u64) {
+        let Some(known) = self.images.get(place) else {
+            return;
+        };
+        let (found, length) = match known.request() {
+            Some(nak) => (Some(known.rebuilt()), nak.length),
+            None => (None, 0),
+        };
+        let publication = *known.publication();
+        let sent = self.shared.counts.counted(place).requests;
+        let told = self.gaps.follow(place, found, sent, now);
+        if let (Some(told), Some(key)) = (told, self.shared.key_at(self.rt, place)) {
+            let image = key.number;
+            let news = match told {
+                GapTold::Stands { millis, naks } => GapNews::Stands {
+                    image,
+                    publication,
+                    position: found.unwrap_or(0),
+                    length,
+                    millis,
+                    naks: sent.saturating_sub(naks),
+                },
+                GapTold::Filled { position, millis } => GapNews::Filled {
+                    image,
+                    position,
+                    millis,
+                },
+            };
+            self.shared.report(&Happening::Gap(news));
         }
     }
 
@@ -310,7 +411,7 @@ impl<'a, R: Wait + Clock, T: Reporter> Reception<'a, R, T> {
     }
 
     /// Asks that an image is recorded if its stream is, it does not leave, and feeds no session.
-    fn ask_to_record(&self, place: Place) {
+    pub(crate) fn ask_to_record(&self, place: Place) {
         let Some(known) = self.images.get(place) else {
             return;
         };
@@ -327,13 +428,29 @@ impl<'a, R: Wait + Clock, T: Reporter> Reception<'a, R, T> {
     fn see_off(&mut self, place: Place, now: u64) {
         if !self.leaving.contains(place) {
             if self.has_to_leave(place, now) {
-                self.leaving.add(place);
-                self.shared.queue.ask_to_leave(self.rt, place);
+                self.note_loss(place, now);
+                self.leave(place);
             }
         } else if !self.shared.queue.is_leaving(self.rt, place) {
-            self.shared.left(self.rt, place);
-            self.images.remove(place);
-            self.leaving.remove(place);
+            self.give_back(place);
+        }
+    }
+
+    /// An image leaves: no block of it is handed on any more.
+    pub(crate) fn leave(&mut self, place: Place) {
+        self.leaving.add(place);
+        self.shared.queue.ask_to_leave(self.rt, place);
+    }
+
+    /// The place of an image is given back.
+    pub(crate) fn give_back(&mut self, place: Place) {
+        self.shared.left(self.rt, place);
+        self.images.remove(place);
+        self.leaving.remove(place);
+        self.gaps.forget(place);
+        if self.resumed.at(place).is_some() {
+            self.shared.counts.resumed_ends.add(1);
+            self.resumed.forget(place);
         }
     }
 

@@ -3,10 +3,10 @@
 
 ghost use Rattle.std.specs.Prelude.{◌≡◌, [], IfOk, slice_get};
 ghost use Rattle.flow_control.specs.Windows.{has_window};
-ghost use Rattle.server_receiver.specs.Senders.{AsksForSetup, AsksPublication, ChangesAt, Hears, Notes, SetsUp, SendsRequestDue, SendsStatusDue, Tends, TendsIf, TendsTo, is_gone, is_silent, is_status_due_to, new_sender, with_sender};
+ghost use Rattle.server_receiver.specs.Senders.{AsksForSetup, AsksPublication, ChangesAt, Hears, Notes, SetsUp, SendsRequestDue, SendsStatusDue, Tends, TendsIf, TendsTo, heard_of, is_gone, is_silent, is_status_due_to, most_for, new_sender, with_sender};
 
 use crate::images::DatagramOutcome;
-use flow_control::{Feedback, SetupRequests, setup_request, window_of};
+use flow_control::{Feedback, SetupRequests, five_sixteenths, setup_request, window_of};
 use frame_core::{Geometry, Publication};
 use image_core::BoundedImage;
 use std::alloc::{AllocError, Global};
@@ -37,6 +37,13 @@ pub struct Receiver {
     pub window: i32,
     /// The receiver's number.
     pub id: i64,
+}
+
+/// The greatest window of a publication with these terms, in bytes: the receiver's, but at most five sixteenths of a term.
+fn most_for(receiver: &Receiver, geometry: &Geometry) -> i32
+    ensures { result ≡ most_for receiver.now geometry.now }
+{
+    receiver.window.min(five_sixteenths(geometry) as i32)
 }
 
 /// The sender of an image.
@@ -134,7 +141,8 @@ fn send_status<E: SenderEnd>(
     if !is_recorded {
         return;
     }
-    if let Some(status) = feedback.status(now, image, receiver.window, None, receiver.id) {
+    let most = most_for(receiver, image.geometry());
+    if let Some(status) = feedback.status(now, image, most, None, receiver.id) {
         end.put(&status.encode(), to);
     }
 }
@@ -191,9 +199,9 @@ impl Senders {
 
     /// Whether the sender of an image with these terms is sent status messages: no frame is longer than the window.
     pub fn has_window(&self, geometry: &Geometry) -> bool
-        ensures { result ≡ has_window geometry.now self.now.receiver.window }
+        ensures { let most = most_for self.now.receiver geometry.now in result ≡ has_window geometry.now most }
     {
-        window_of(geometry, self.receiver.window).is_some()
+        window_of(geometry, most_for(&self.receiver, geometry)).is_some()
     }
 
     /// Notes a datagram, and where it came from. Does not allocate.
@@ -230,13 +238,22 @@ impl Senders {
     /// Whether a status message is due to the sender of an image, if the image is recorded. If not, [`tend`](Senders::tend)
     /// does the same for one that is recorded and one that is not.
     pub fn is_status_due(&self, place: Place, image: &BoundedImage, now: u64) -> bool
-        ensures { result ≡ is_status_due_to (slice_get self.now.senders place) now self.now.receiver.window image.now }
+        ensures { result ≡ is_status_due_to (slice_get self.now.senders place) now self.now.receiver image.now }
+    {
+        let most = most_for(&self.receiver, image.geometry());
+        match self.senders.as_slice().get(place) {
+            Some(sender) => sender.feedback.is_status_due(now, image, most, None),
+            None => false,
+        }
+    }
+
+    /// When something of the publication of the image at a place came last, in milliseconds; 0 if there is none.
+    pub fn heard(&self, place: Place) -> u64
+        ensures { result ≡ heard_of (slice_get self.now.senders place) }
     {
         match self.senders.as_slice().get(place) {
-            Some(sender) => sender
-                .feedback
-                .is_status_due(now, image, self.receiver.window, None),
-            None => false,
+            Some(sender) => sender.feedback.heard,
+            None => 0,
         }
     }
 

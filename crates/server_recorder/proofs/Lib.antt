@@ -1,3 +1,4 @@
 mod SeatLemmas
 mod SettlingLemmas
 pub mod StreamLemmas
+pub mod StandLemmas

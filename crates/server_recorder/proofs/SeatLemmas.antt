@@ -1,19 +1,22 @@
 -- Seats and their passes.
 use Rattle.std.proofs.Common.{◌≡◌, ◌≢◌, ◌+◌, ◌++◌, ◌<◌, ◌≤◌, ◌∙◌, ℕ, zero, suc, ℤ, pos, List, [], ◌∷◌, Option, Some, None, Result, Ok, Err, Bool, true, false, refl, sym, subst, ap, length, arith, eqb, eq-eqb}
-use Rattle.std.specs.Prelude.{◌||◌, IfOk, IfErr, int_le, slice_get, slice_index_or, slice_set, if◌then◌else◌}
+use Rattle.std.specs.Prelude.{◌||◌, MatchResult, int_le, slice_get, slice_set, if◌then◌else◌}
+use Rattle.std.specs.List.{zip}
 use mathlib.Core.List.{reverse}
 use mathlib.Core.Logic.{dite}
 use native.Mathlib.Decide.{ℕ_discrete}
 use Rattle.std.proofs.lemmas.List.{length-append, reverse-append}
 use Rattle.atomic_table.specs.Seated.{TableId}
 use Rattle.position_board.specs.Positions.{Published, last_position, new_writers, with_position}
-use Rattle.recorder_seats.specs.Seat.{SeatView, raised_unless_below}
+use Rattle.recorder_seats.specs.declared.bench.BenchSeat.{BenchSeat}
+use Rattle.recorder_seats.specs.Bench.{AreOfBoard, AreUnraised, BenchView, changed_seat, raised_at, raised_each, reseated_at}
+use Rattle.recorder_seats.specs.Seat.{raised_unless_below}
 use Rattle.frame_core.specs.declared.refusal.Refusal.{Refusal}
 use Rattle.call_history.specs.Passes.{AllOfTable, HasEach, has_number, new_pass, new_passes}
 use Rattle.call_history.specs.Values.{PassView}
 use Rattle.archive_lock.specs.declared.history.Made.{Made}
 use Rattle.archive_lock.specs.History.{Member}
-use Rattle.server_recorder.specs.Seats.{AreNewWriters, AreNumbered, AreSeats, CallsAt, CallsAtSeat, HasNumbersFrom, IsNewWriter, IsSeat, SeatsView, reseated}
+use Rattle.server_recorder.specs.Seats.{AreNewSeats, AreNewWriters, AreSeats, HasNumbersFrom, IsBench, IsNewWriter, IsSeat}
 
 -- ---- the last of a list
 
@@ -94,150 +97,106 @@ all_push table (q ∷ ps) p all of = (all.0, all_push table ps p all.1 of)
 
 -- ---- seats
 
--- a seat that is read by its index
-pub gets_at : {A : Type 0} (xs : List A) (i : ℕ) (x : A) → i < length xs → x ≡ slice_index_or xs i x → slice_get xs i ≡ Some x
-gets_at [] i x below is = absurd (omega arith)
-gets_at (y ∷ ys) zero x below is = ap Some (sym is)
-gets_at (y ∷ ys) (suc i) x below is = gets_at ys i x (omega arith) is
-
 -- seats are made from the last one on
-pub seats_push : (table board : TableId) (k n : ℕ) (xs : List SeatView) (x : SeatView) → AreSeats table board k (reverse xs) → k ≡ suc n → IsSeat table board n x → AreSeats table board n (reverse (xs ++ x ∷ []))
-seats_push table board k n xs x all next holds =
+pub seats_push : (board : TableId) (k n : ℕ) (xs : List BenchSeat) (x : BenchSeat) → AreNewSeats board k (reverse xs) → k ≡ suc n → IsNewWriter board n x.writer → AreNewSeats board n (reverse (xs ++ x ∷ []))
+seats_push board k n xs x all next holds =
     let here : k ≡ n + 1 = omega arith in
-    subst (AreSeats table board n) (sym (reverse-append xs (x ∷ []))) (holds, subst (λ m. AreSeats table board m (reverse xs)) here all)
+    subst (AreNewSeats board n) (sym (reverse-append xs (x ∷ []))) (holds, subst (λ m. AreNewSeats board m (reverse xs)) here all)
 
-seat_from : (table board : TableId) (n : ℕ) (xs : List SeatView) (i : ℕ) (x : SeatView) → AreSeats table board n xs → slice_get xs i ≡ Some x → IsSeat table board (n + i) x
-seat_from table board n [] i x all gets = absurd cc
-seat_from table board n (y ∷ ys) zero x all gets =
-    let is : y ≡ x = cc in
-    let same : n ≡ n + 0 = omega arith in
-    subst (λ k. IsSeat table board k x) same (subst (IsSeat table board n) is all.0)
-seat_from table board n (y ∷ ys) (suc i) x all gets = let same : n + 1 + i ≡ n + suc i = omega arith in subst (λ k. IsSeat table board k x) same (seat_from table board (n + 1) ys i x all.1 gets)
+pub are_seats : (board : TableId) (n : ℕ) (seats : List BenchSeat) → AreNewSeats board n seats → AreSeats board n seats
+are_seats board n [] all = tt
+are_seats board n (seat ∷ seats) all = (record { writer = all.0.table; slot = all.0.slot }, are_seats board (n + 1) seats all.1)
 
-pub seat_at : (table board : TableId) (xs : List SeatView) (i : ℕ) (x : SeatView) → AreSeats table board 0 xs → slice_get xs i ≡ Some x → IsSeat table board i x
-seat_at table board xs i x all gets = let same : 0 + i ≡ i = omega arith in subst (λ k. IsSeat table board k x) same (seat_from table board 0 xs i x all gets)
+pub are_unraised : (board : TableId) (n : ℕ) (seats : List BenchSeat) → AreNewSeats board n seats → AreUnraised seats
+are_unraised board n [] all = tt
+are_unraised board n (seat ∷ seats) all = (all.0.none, are_unraised board (n + 1) seats all.1)
 
-set_from : (table board : TableId) (n : ℕ) (xs : List SeatView) (i : ℕ) (new : SeatView) → AreSeats table board n xs → IsSeat table board (n + i) new → AreSeats table board n (slice_set xs i new)
-set_from table board n [] i new all holds = tt
-set_from table board n (y ∷ ys) zero new all holds = let same : n + 0 ≡ n = omega arith in (subst (λ k. IsSeat table board k new) same holds, all.1)
-set_from table board n (y ∷ ys) (suc i) new all holds = let same : n + suc i ≡ n + 1 + i = omega arith in (all.0, set_from table board (n + 1) ys i new all.1 (subst (λ k. IsSeat table board k new) same holds))
+pub are_of_board : (board : TableId) (n : ℕ) (seats : List BenchSeat) → AreSeats board n seats → AreOfBoard board seats
+are_of_board board n [] all = tt
+are_of_board board n (seat ∷ seats) all = (all.0.writer, are_of_board board (n + 1) seats all.1)
 
-pub seats_set : (table board : TableId) (xs : List SeatView) (i : ℕ) (new : SeatView) → AreSeats table board 0 xs → IsSeat table board i new → AreSeats table board 0 (slice_set xs i new)
-seats_set table board xs i new all holds = let same : i ≡ 0 + i = omega arith in set_from table board 0 xs i new all (subst (λ k. IsSeat table board k new) same holds)
+-- a seat that is changed stays the seat of its number
+seats_set : (board : TableId) (change : BenchSeat → BenchSeat) → ((n : ℕ) (seat : BenchSeat) → IsSeat board n seat → IsSeat board n (change seat)) → (n : ℕ) (xs : List BenchSeat) (i : ℕ) (x : BenchSeat) → slice_get xs i ≡ Some x → AreSeats board n xs → AreSeats board n (slice_set xs i (change x))
+seats_set board change keeps n [] i x gets all = tt
+seats_set board change keeps n (y ∷ ys) zero x gets all = let is : y ≡ x = cc in (subst (λ (z : BenchSeat). IsSeat board n (change z)) is (keeps n y all.0), all.1)
+seats_set board change keeps n (y ∷ ys) (suc i) x gets all = (all.0, seats_set board change keeps (n + 1) ys i x gets all.1)
 
--- a seat with the pass and the writer of a number
-pub new_seat : (table board : TableId) (n k : ℕ) (seat : SeatView) (pass : PassView Made) (writer : Published) → seat ≡ record { session = pos n; pass = pass; writer = writer } → n ≡ k → pass ≡ made_pass table k → IsNewWriter board k writer → IsSeat table board k seat
-new_seat table board n k seat pass writer is same made new = record {
-  table = ap (λ (s : SeatView). s.pass.table) is ∙ ap (λ (p : PassView Made). p.table) made;
-  number = ap (λ (s : SeatView). s.pass.number) is ∙ ap (λ (p : PassView Made). p.number) made;
-  writer = ap (λ (s : SeatView). s.writer.table) is ∙ new.table;
-  slot = ap (λ (s : SeatView). s.writer.slot) is ∙ new.slot;
-}
-
--- a seat that has written is its session's still
-pub written_seat : (table board : TableId) (n : ℕ) (old new : SeatView) → IsSeat table board n old → new ≡ record old { pass = new.pass } → new.pass.table ≡ old.pass.table → new.pass.number ≡ old.pass.number → IsSeat table board n new
-written_seat table board n old new was same of number = record {
-  table = of ∙ was.table;
-  number = number ∙ was.number;
-  writer = ap (λ (s : SeatView). s.writer.table) same ∙ was.writer;
-  slot = ap (λ (s : SeatView). s.writer.slot) same ∙ was.slot;
-}
-
--- so is one that has looked
-pub looked_seat : (table board : TableId) (n : ℕ) (old new : SeatView) (seen : List Member) → IsSeat table board n old → new ≡ record old { pass = record old.pass { seen = seen } } → IsSeat table board n new
-looked_seat table board n old new seen was is = record {
-  table = ap (λ (s : SeatView). s.pass.table) is ∙ was.table;
-  number = ap (λ (s : SeatView). s.pass.number) is ∙ was.number;
-  writer = ap (λ (s : SeatView). s.writer.table) is ∙ was.writer;
-  slot = ap (λ (s : SeatView). s.writer.slot) is ∙ was.slot;
-}
-
--- so is one that has settled
-raised_table : (position : ℤ) (writer : Published) → (raised_unless_below position writer).table ≡ writer.table
-raised_table position writer = by (int_le (last_position writer.positions) position)
+seats_changed : (board : TableId) (change : BenchSeat → BenchSeat) → ((n : ℕ) (seat : BenchSeat) → IsSeat board n seat → IsSeat board n (change seat)) → (i : ℕ) (xs : List BenchSeat) → AreSeats board 0 xs → AreSeats board 0 (changed_seat (slice_get xs i) i change xs)
+seats_changed board change keeps i xs all = by (slice_get xs i) refl
   where
-    by : (b : Bool) → (if b then with_position position writer else writer).table ≡ writer.table
-    by true = refl
-    by false = refl
+    by : (o : Option BenchSeat) → slice_get xs i ≡ o → AreSeats board 0 (changed_seat o i change xs)
+    by None is = all
+    by (Some seat) is = seats_set board change keeps 0 xs i seat is all
 
-raised_slot : (position : ℤ) (writer : Published) → (raised_unless_below position writer).slot ≡ writer.slot
-raised_slot position writer = by (int_le (last_position writer.positions) position)
+-- so it is for another session
+pub seats_reseated : (board : TableId) (i : ℕ) (session : ℤ) (xs : List BenchSeat) → AreSeats board 0 xs → AreSeats board 0 (reseated_at i session xs)
+seats_reseated board i session xs all = seats_changed board (λ seat. record seat { session = session }) (λ n seat is. record { writer = is.writer; slot = is.slot }) i xs all
+
+-- and once it was raised
+raised_seat : (board : TableId) (position : ℤ) (n : ℕ) (seat : BenchSeat) → IsSeat board n seat → IsSeat board n (record seat { writer = raised_unless_below position seat.writer })
+raised_seat board position n seat is = by (int_le (last_position seat.writer.positions) position)
   where
-    by : (b : Bool) → (if b then with_position position writer else writer).slot ≡ writer.slot
-    by true = refl
-    by false = refl
+    by : (b : Bool) → IsSeat board n (record seat { writer = if b then with_position position seat.writer else seat.writer })
+    by true = record { writer = is.writer; slot = is.slot }
+    by false = record { writer = is.writer; slot = is.slot }
 
-pub settled_seat : (table board : TableId) (n : ℕ) (old new : SeatView) (result : Result ℤ Refusal) → IsSeat table board n old → IfOk result (λ position. new.writer ≡ raised_unless_below position old.writer)
-    → IfErr result (λ refusal. new.writer ≡ old.writer) → new.pass.table ≡ old.pass.table → new.pass.number ≡ old.pass.number → new.session ≡ old.session → IsSeat table board n new
-settled_seat table board n old new (Ok position) was raised same of number session = record {
-  table = of ∙ was.table;
-  number = number ∙ was.number;
-  writer = ap (λ (w : Published). w.table) raised ∙ (raised_table position old.writer ∙ was.writer);
-  slot = ap (λ (w : Published). w.slot) raised ∙ (raised_slot position old.writer ∙ was.slot);
-}
-settled_seat table board n old new (Err refusal) was raised same of number session = record {
-  table = of ∙ was.table;
-  number = number ∙ was.number;
-  writer = ap (λ (w : Published). w.table) same ∙ was.writer;
-  slot = ap (λ (w : Published). w.slot) same ∙ was.slot;
-}
+pub seats_raised : (board : TableId) (i : ℕ) (o : Option ℤ) (xs : List BenchSeat) → AreSeats board 0 xs → AreSeats board 0 (raised_at i o xs)
+seats_raised board i None xs all = all
+seats_raised board i (Some position) xs all = seats_changed board (λ seat. record seat { writer = raised_unless_below position seat.writer }) (raised_seat board position) i xs all
 
--- there is none
-no_seat : (xs : List SeatView) (i : ℕ) → length xs ≤ i → slice_get xs i ≡ None
-no_seat [] i none = refl
-no_seat (y ∷ ys) zero none = absurd (omega arith)
-no_seat (y ∷ ys) (suc i) none = no_seat ys i (omega arith)
+pub seats_raised_each : (board : TableId) (raisings : List (ℕ × Option ℤ)) (xs : List BenchSeat) → AreSeats board 0 xs → AreSeats board 0 (raised_each raisings xs)
+seats_raised_each board [] xs all = all
+seats_raised_each board (raising ∷ raisings) xs all = seats_raised_each board raisings (raised_at raising.0 raising.1 xs) (seats_raised board raising.0 raising.1 xs all)
 
--- a seat that writes for another session is a seat
-pub reseated_seat : (table board : TableId) (n : ℕ) (old new : SeatView) (session : ℤ) → IsSeat table board n old → new ≡ record old { session = session } → IsSeat table board n new
-reseated_seat table board n old new session was is = record {
-  table = ap (λ (s : SeatView). s.pass.table) is ∙ was.table;
-  number = ap (λ (s : SeatView). s.pass.number) is ∙ was.number;
-  writer = ap (λ (s : SeatView). s.writer.table) is ∙ was.writer;
-  slot = ap (λ (s : SeatView). s.writer.slot) is ∙ was.slot;
+-- ---- a bench
+
+-- it stays the bench over a call
+pub bench_called : (history board : TableId) (old new : BenchView) → IsBench history board old → new ≡ record old { pass = new.pass } → (new.pass.table ≡ old.pass.table) × (new.pass.number ≡ old.pass.number) → IsBench history board new
+bench_called history board old new was same pass = record {
+  table = pass.0 ∙ was.table;
+  number = pass.1 ∙ was.number;
+  seats = subst (AreSeats board 0) (sym (ap (λ (b : BenchView). b.seats) same)) was.seats;
 }
 
-reseated_by : (session : ℤ) (o : Option SeatView) (n : ℕ) (seats : List SeatView) (old new : SeatView) → o ≡ Some old → new ≡ record old { session = session } → slice_set seats n new ≡ reseated session o n seats
-reseated_by session None n seats old new gets is = absurd cc
-reseated_by session (Some seat) n seats old new gets is =
-    let same : seat ≡ old = cc in
-    ap (slice_set seats n) (is ∙ ap (λ (s : SeatView). record s { session = session }) (sym same))
+-- with another session at a seat
+pub bench_reseated : (history board : TableId) (old new : BenchView) (i : ℕ) (session : ℤ) → IsBench history board old → new ≡ record old { seats = reseated_at i session old.seats } → IsBench history board new
+bench_reseated history board old new i session was is = record {
+  table = ap (λ (b : BenchView). b.pass.table) is ∙ was.table;
+  number = ap (λ (b : BenchView). b.pass.number) is ∙ was.number;
+  seats = subst (AreSeats board 0) (sym (ap (λ (b : BenchView). b.seats) is)) (seats_reseated board i session old.seats was.seats);
+}
 
-pub reseated_at : (session : ℤ) (n : ℕ) (seats : List SeatView) (old new : SeatView) → slice_get seats n ≡ Some old → new ≡ record old { session = session } → slice_set seats n new ≡ reseated session (slice_get seats n) n seats
-reseated_at session n seats old new gets is = reseated_by session (slice_get seats n) n seats old new gets is
+-- over a look
+pub bench_looked : (history board : TableId) (old new : BenchView) (seen : List Member) → IsBench history board old → new ≡ record old { pass = new.pass } → new.pass ≡ record old.pass { seen = seen } → IsBench history board new
+bench_looked history board old new seen was same looked = bench_called history board old new was same (ap (λ (p : PassView Made). p.table) looked, ap (λ (p : PassView Made). p.number) looked)
 
-unseated_by : (session : ℤ) (o : Option SeatView) (n : ℕ) (seats : List SeatView) → o ≡ None → seats ≡ reseated session o n seats
-unseated_by session None n seats none = refl
-unseated_by session (Some seat) n seats none = absurd cc
+-- over a settling of one session
+pub bench_settled : (history board : TableId) (old new : BenchView) (seat : ℕ) (result : Result ℤ Refusal) → IsBench history board old → (new.pass.table ≡ old.pass.table) × (new.pass.number ≡ old.pass.number)
+    → MatchResult result (λ position. new.seats ≡ raised_at seat (Some position) old.seats) (λ refusal. new.seats ≡ old.seats) → IsBench history board new
+bench_settled history board old new seat (Ok position) was pass raised = record {
+  table = pass.0 ∙ was.table;
+  number = pass.1 ∙ was.number;
+  seats = subst (AreSeats board 0) (sym raised) (seats_raised board seat (Some position) old.seats was.seats);
+}
+bench_settled history board old new seat (Err refusal) was pass raised = record {
+  table = pass.0 ∙ was.table;
+  number = pass.1 ∙ was.number;
+  seats = subst (AreSeats board 0) (sym raised) was.seats;
+}
 
-pub unseated : (session : ℤ) (n : ℕ) (seats : List SeatView) → length seats ≤ n → seats ≡ reseated session (slice_get seats n) n seats
-unseated session n seats past = unseated_by session (slice_get seats n) n seats (no_seat seats n past)
-
--- the seat of a number calls
-pub calls_at : {A : Type 0} (n : ℕ) (without : A) (old : SeatsView) (seat after : SeatView) (result : A) (Calls : SeatView → A → SeatView → Type 0) → slice_get old.seats n ≡ Some seat → Calls seat result after
-    → CallsAt n without old result (record old { seats = slice_set old.seats n after }) Calls
-calls_at n without old seat after result Calls gets calls =
-    subst (λ o. CallsAtSeat o n without old result (record old { seats = slice_set old.seats n after }) Calls) (sym gets) (after, calls, refl)
-
-pub calls_none : {A : Type 0} (n : ℕ) (without : A) (old : SeatsView) (result : A) (Calls : SeatView → A → SeatView → Type 0) → length old.seats ≤ n → result ≡ without → CallsAt n without old result old Calls
-calls_none n without old result Calls none is = subst (λ o. CallsAtSeat o n without old result old Calls) (sym (no_seat old.seats n none)) (is, refl)
-
--- ---- passes of seats
-
-pub are_numbered : (table board : TableId) (n : ℕ) (seats : List SeatView) → AreSeats table board n seats → AreNumbered table n seats
-are_numbered table board n [] all = tt
-are_numbered table board n (seat ∷ seats) all = (all.0.table, all.0.number, are_numbered table board (n + 1) seats all.1)
-
-pub numbered_front : (table : TableId) (n : ℕ) (xs : List SeatView) (x : SeatView) → AreNumbered table n (xs ++ x ∷ []) → AreNumbered table n xs
-numbered_front table n [] x all = tt
-numbered_front table n (y ∷ ys) x all = (all.0, all.1, numbered_front table (n + 1) ys x all.2)
-
-numbered_end : (table : TableId) (n : ℕ) (xs : List SeatView) (x : SeatView) → AreNumbered table n (xs ++ x ∷ []) → (x.pass.table ≡ table) × (x.pass.number ≡ n + length xs)
-numbered_end table n [] x all = (all.0, omega (arith, all.1))
-numbered_end table n (y ∷ ys) x all = let rest = numbered_end table (n + 1) ys x all.2 in (rest.0, omega (arith, rest.1))
-
-pub numbered_last : (table : TableId) (xs : List SeatView) (x : SeatView) → AreNumbered table 0 (xs ++ x ∷ []) → (x.pass.table ≡ table) × (x.pass.number ≡ length xs)
-numbered_last table xs x all = let is = numbered_end table 0 xs x all in (is.0, omega (arith, is.1))
+-- and of several
+pub bench_settled_all : (history board : TableId) (old new : BenchView) (seats : List ℕ) (result : Result (List (Option ℤ)) Refusal) → IsBench history board old → (new.pass.table ≡ old.pass.table) × (new.pass.number ≡ old.pass.number)
+    → MatchResult result (λ positions. new.seats ≡ raised_each (zip seats positions) old.seats) (λ refusal. new.seats ≡ old.seats) → IsBench history board new
+bench_settled_all history board old new seats (Ok positions) was pass raised = record {
+  table = pass.0 ∙ was.table;
+  number = pass.1 ∙ was.number;
+  seats = subst (AreSeats board 0) (sym raised) (seats_raised_each board (zip seats positions) old.seats was.seats);
+}
+bench_settled_all history board old new seats (Err refusal) was pass raised = record {
+  table = pass.0 ∙ was.table;
+  number = pass.1 ∙ was.number;
+  seats = subst (AreSeats board 0) (sym raised) was.seats;
+}
 
 -- ---- all passes
 
@@ -267,3 +226,7 @@ has_none k count ps past = λ n from below. absurd (omega arith)
 
 pub all_from : (k count : ℕ) (ps : List (PassView Made)) → HasNumbersFrom k count ps → k ≡ 0 → HasEach count ps
 all_from k count ps has at = λ n below. has n (omega arith) below
+
+-- the passes of clients and the first one are all
+pub all_with_first : (table : TableId) (count : ℕ) (ps : List (PassView Made)) (p : PassView Made) → AllOfTable table ps → HasNumbersFrom 1 count ps → p.table ≡ table → p.number ≡ 0 → AllOfTable table (ps ++ p ∷ []) × HasEach count (ps ++ p ∷ [])
+all_with_first table count ps p all has of number = (all_push table ps p all of, all_from 0 count (ps ++ p ∷ []) (has_push 1 0 count ps p has refl number) refl)

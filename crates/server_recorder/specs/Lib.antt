@@ -6,3 +6,5 @@ pub mod Seats
 pub mod Recording
 -- Archives that can record nothing any more.
 pub mod Stopping
+-- How many recordings the server begins.
+pub mod Tokens

@@ -1,6 +1,6 @@
 -- When a session settles what it wrote: docs/SERVING.md, "When a frame is durable". Times are in milliseconds since the recording
 -- thread began; there is none for a moment at which the clock could not be read.
-use Rattle.std.specs.Prelude.{◌≡◌, ◌&&◌, ◌||◌, ◌+◌, ◌-◌, ◌^◌, ◌<◌, ℕ, ℤ, nat_le, min, not, if◌then◌else◌, Bool, true, false, List, Option, None, Some, is_some, slice_index_or, slice_set}
+use Rattle.std.specs.Prelude.{◌≡◌, ◌&&◌, ◌||◌, ◌+◌, ◌-◌, ◌/◌, ◌^◌, ◌<◌, ℕ, zero, ℤ, nat_le, min, not, if◌then◌else◌, Bool, true, false, List, Option, None, Some, is_some, slice_index_or, slice_set}
 use Rattle.std.specs.List.{list_any}
 use Rattle.std.specs.Ordering.{int_eq}
 use Rattle.server_recorder.specs.declared.settling.SessionState.{SessionState}
@@ -39,6 +39,11 @@ session_settled n s =
     then record s { sessions = slice_set s.sessions n (record { written = None; settled_at = s.time }) }
     else s
 
+-- microseconds that each of so many syncs took; without one it is what it was
+abbrev pub pace_after : ℕ → ℕ → ℕ → ℕ
+pace_after micros zero pace = pace
+pace_after micros syncs pace = micros / syncs
+
 -- ---- when a session is due
 
 -- milliseconds from one time to another: none if either is not known, or the clock went back
@@ -75,6 +80,16 @@ is_due every time waits asked s = is_some s.written && (asked || is_overdue ever
 -- it wrote enough while a further block waits
 abbrev pub is_full : SessionState → Bool
 is_full s = wrote_enough true s.written
+
+-- how much a session of a number has written with so many bytes more, short of the largest `u64`
+abbrev pub with_more : ℤ → ℕ → Option Written → ℕ
+with_more session more None = min more (2 ^ 64 - 1)
+with_more session more (Some w) = if int_eq w.session session then min (w.bytes + more) (2 ^ 64 - 1) else min more (2 ^ 64 - 1)
+
+-- what it wrote has waited for at least half as long as a block may
+abbrev pub is_half_due : ℕ → Option ℕ → Option Written → Bool
+is_half_due every time None = false
+is_half_due every time (Some w) = has_lasted (every - every / 2) (elapsed w.since time)
 
 -- ---- when the first one is due
 

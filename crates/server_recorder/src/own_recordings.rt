@@ -1,27 +1,29 @@
 //! Recordings that the server starts by itself. docs/SERVING.md, "Recording without being asked".
 
-ghost use Rattle.std.specs.Prelude.{◌≡◌, Err, None, Option, replicate, slice_set};
-ghost use Rattle.frame_core.specs.declared.refusal.Refusal.TheVariants.{StaleSession};
-ghost use Rattle.archive_lock.specs.declared.standing.Standing.{Standing};
-ghost use Rattle.server_recorder.specs.Seats.{CallsAt, MakesCall};
+ghost use Rattle.std.specs.Prelude.{◌≡◌, None, replicate, slice_set};
+ghost use Rattle.server_recorder.specs.Seats.{MakesCall};
 
+use crate::checkpoints::keep_short;
 use crate::recording::Recording;
 use crate::seats::Seats;
-use crate::stopping::note_standing;
-use crate::streams::{extend_fields, last_continued, start_fields};
-use archive_lock::Naming;
-use archive_model::{Channel, Reply, SourceIdentity};
+use crate::streams::{Finding, extend_fields, finding_for, stand_before, start_fields};
+use crate::tokens::Tokens;
+use archive_lock::{Naming, Standing};
+use archive_model::{Channel, Descriptor, Reply, SourceIdentity};
 use control_core::{Event, Request};
 use disk_core::Disk;
-use frame_core::Refusal;
 use frame_core::limits::MAX_LIST;
-use server_state::{Happening, ImageNews, Reporter, Taken, WaitingImage};
+use frame_core::{Items, Refusal};
+use server_state::{
+    Found, Happening, HoleCause, ImageNews, Reporter, ResumeNews, Resumes, Stand, Taken,
+    WaitingImage, resume_reach,
+};
 use std::alloc::{AllocError, Global};
 use std::net::SocketAddr;
 use std::rt::Clock;
 use std::sync::Wait;
 use std::time::SystemTime;
-use stream_pairs::{MAX_IMAGES, Place, StreamPoint};
+use stream_pairs::{ImageNumber, MAX_IMAGES, Place, StreamPoint};
 
 /// Milliseconds of an hour.
 const HOUR: u64 = 3_600_000;
@@ -36,6 +38,10 @@ pub struct OwnRecordings {
     refused: [Option<Refusal>; MAX_IMAGES],
     /// When it was reported last that there are as many recordings as there may be, in milliseconds.
     full_at: Option<u64>,
+    /// How many recordings may begin.
+    tokens: Tokens,
+    /// By place the image that waits since no recording may begin, as it was reported last.
+    late: [Option<ImageNumber>; MAX_IMAGES],
 }
 
 impl OwnRecordings {
@@ -46,6 +52,8 @@ impl OwnRecordings {
           recordings = replicate 64 None;
           refused = replicate 64 None;
           full_at = None;
+          tokens = record { left = 64; since = 0 };
+          late = replicate 64 None;
         } }
     {
         OwnRecordings {
@@ -53,6 +61,8 @@ impl OwnRecordings {
             recordings: [None; MAX_IMAGES],
             refused: [None; MAX_IMAGES],
             full_at: None,
+            tokens: Tokens::new(),
+            late: [None; MAX_IMAGES],
         }
     }
 
@@ -74,7 +84,8 @@ impl OwnRecordings {
     }
 
     /// Records the image at a place, if it feeds no session: by an extension of a stopped recording, or a new one. Reports it;
-    /// a refusal once for an image and cause.
+    /// a refusal once for an image and cause. An image whose publication's last recording stands before its setup frame is not
+    /// recorded yet: it is to begin anew there.
     fn record<D: Disk, A: Naming, R: Wait + Clock, T: Reporter>(
         &mut self,
         with: &Recording<'_, D, A, R, T>,
@@ -85,16 +96,63 @@ impl OwnRecordings {
         let Some(image) = with.shared.waiting(with.rt, place) else {
             return;
         };
-        match open(with, seats, &image.point, image.sender, self.segment_length) {
-            Ok(recording) => {
+        let may_begin = self.may_begin(now);
+        match open(with, seats, &image, may_begin, self.segment_length) {
+            Ok(
+                Opened::Recorded {
+                    recording,
+                    is_new,
+                    before,
+                },
+            ) => {
+                self.note_begun(is_new, now);
                 self.set(place, Some(recording), None);
-                with.shared.look_round(with.socket);
+                found(with, &image, Found::Recorded);
                 with.shared.report(&Happening::Image(ImageNews::Recorded {
-                    image: image.number,
+                    image: image.key.number,
                     recording,
                 }));
+                report_before(with, &image, before);
             }
-            Err(cause) => self.report(with, place, &image, cause, now),
+            Ok(Opened::StandsBefore(stand)) => found(with, &image, Found::Stands(stand)),
+            Ok(Opened::MayNotBegin) => self.report_late(with, &image),
+            Err(cause) => {
+                with.shared.found(with.rt, &image.key, Found::Refused);
+                self.report(with, place, &image, cause, now);
+            }
+        }
+    }
+
+    /// Whether a recording may begin now. Without a clock it may.
+    fn may_begin(&self, now: Option<u64>) -> bool {
+        match now {
+            Some(now) => self.tokens.has_one(now),
+            None => true,
+        }
+    }
+
+    /// A recording was opened; a new one counts.
+    fn note_begun(&mut self, is_new: bool, now: Option<u64>) {
+        if let Some(now) = now {
+            if is_new {
+                self.tokens.take(now);
+            }
+        }
+    }
+
+    /// Reports an image for which no recording may begin yet, once.
+    fn report_late<D: Disk, A: Naming, R: Wait + Clock, T: Reporter>(
+        &mut self,
+        with: &Recording<'_, D, A, R, T>,
+        image: &WaitingImage,
+    ) {
+        let place = image.key.place;
+        let number = Some(image.key.number);
+        if place < MAX_IMAGES && self.late[place] != number {
+            self.late[place] = number;
+            let image = image.key.number;
+            with.shared
+                .report(&Happening::Image(ImageNews::TooManyBegun { image }));
         }
     }
 
@@ -109,7 +167,7 @@ impl OwnRecordings {
         if self.is_new(place, cause, now) {
             self.set(place, None, Some(cause));
             with.shared.report(&Happening::Image(ImageNews::NotRecorded {
-                image: image.number,
+                image: image.key.number,
                 cause,
             }));
         }
@@ -179,37 +237,118 @@ impl OwnRecordings {
     }
 }
 
-/// Opens a session for an image that joined at a point: the id of its recording.
+/// What came of an image that waits to be recorded.
+#[derive(Clone, Copy)]
+enum Opened {
+    /// A recording was opened for it.
+    Recorded {
+        /// Its id.
+        recording: i64,
+        /// Whether it is a new one.
+        is_new: bool,
+        /// Where the last recording of its publication ends, if this is a new one.
+        before: Option<Stand>,
+    },
+    /// The last recording of its publication stands before its setup frame.
+    StandsBefore(Stand),
+    /// A recording would begin, but as many have begun as may within a short time.
+    MayNotBegin,
+}
+
+/// Opens a session for an image that waits, unless it is to begin anew before, or no recording may begin.
 fn open<D: Disk, A: Naming, R: Wait + Clock, T: Reporter>(
     with: &Recording<'_, D, A, R, T>,
     seats: &mut Seats<A>,
-    point: &StreamPoint,
-    sender: Option<SocketAddr>,
+    image: &WaitingImage,
+    may_begin: bool,
     segment_length: i32,
-) -> Result<i64, Refusal> {
-    match continued(with, seats, point)? {
-        Some(recording) => {
+) -> Result<Opened, Refusal> {
+    let point = &image.point;
+    let recordings = listed(with, seats)?;
+    match finding_for(recordings.as_slice(), point, image.resumes) {
+        Finding::Extends(recording) => {
             let fields = extend_fields(recording, point);
             call(with, seats, &Event::Ask(Request::Extend(fields)))?;
-            Ok(recording)
+            Ok(Opened::Recorded {
+                recording,
+                is_new: false,
+                before: None,
+            })
         }
-        None => start(with, seats, point, sender, segment_length),
+        Finding::StandsBefore(stand) => Ok(Opened::StandsBefore(stand)),
+        Finding::Begins if !may_begin => Ok(Opened::MayNotBegin),
+        Finding::Begins => {
+            let before = stand_before(recordings.as_slice(), point);
+            let recording = start(with, seats, point, image.sender, segment_length)?;
+            Ok(Opened::Recorded {
+                recording,
+                is_new: true,
+                before,
+            })
+        }
     }
 }
 
-/// The stopped recording that goes on with an image which joined at a point.
-fn continued<D: Disk, A: Naming, R: Wait + Clock, T: Reporter>(
+/// All recordings, by rising id.
+fn listed<D: Disk, A: Naming, R: Wait + Clock, T: Reporter>(
     with: &Recording<'_, D, A, R, T>,
     seats: &mut Seats<A>,
-    point: &StreamPoint,
-) -> Result<Option<i64>, Refusal> {
+) -> Result<Items<Descriptor>, Refusal> {
     let all = Request::List {
         from: 0,
         count: MAX_LIST,
     };
     match call(with, seats, &Event::Ask(all))? {
-        Reply::Recordings(recordings) => Ok(last_continued(recordings.as_slice(), point)),
-        _ => Ok(None),
+        Reply::Recordings(recordings) => Ok(recordings),
+        _ => Ok(Items::new(with.alloc)),
+    }
+}
+
+/// The thread that receives is told what was found for an image.
+fn found<D: Disk, A: Naming, R: Wait, T: Reporter>(
+    with: &Recording<'_, D, A, R, T>,
+    image: &WaitingImage,
+    found: Found,
+) {
+    with.shared.found(with.rt, &image.key, found);
+    with.shared.look_round(with.socket);
+}
+
+/// Reports what a new recording of a publication misses after the last one, or that the publication went back before its end.
+fn report_before<D: Disk, A: Naming, R: Wait, T: Reporter>(
+    with: &Recording<'_, D, A, R, T>,
+    image: &WaitingImage,
+    before: Option<Stand>,
+) {
+    let Some(stand) = before else {
+        return;
+    };
+    let point = &image.point;
+    let publication = point.publication;
+    let news = if stand.position < point.position {
+        ResumeNews::Hole {
+            publication,
+            from: stand.position,
+            to: point.position,
+            cause: hole_cause(image),
+        }
+    } else {
+        ResumeNews::WentBack {
+            publication,
+            at: point.position,
+            recording: stand.recording,
+            end: stand.position,
+        }
+    };
+    with.shared.report_resume(news);
+}
+
+/// Why a publication does not go on where its last recording ends.
+fn hole_cause(image: &WaitingImage) -> HoleCause {
+    match image.resumes {
+        Resumes::Yes => HoleCause::TooFar(resume_reach(&image.point.geometry)),
+        Resumes::NoRepeat => HoleCause::NoRepeat,
+        Resumes::WasLost => HoleCause::WasLost,
     }
 }
 
@@ -247,23 +386,33 @@ fn start_from<D: Disk, A: Naming, R: Wait + Clock, T: Reporter>(
     }
 }
 
-/// Makes a call by the pass of the first seat, and notes its answer and where the archive stands after it, before or after each
-/// other call that is noted.
+/// Makes a call by the pass of the seats, and notes its answer and where the archive stands after it. A checkpoint follows if the
+/// call leaves one due.
 fn call<D: Disk, A: Naming, R: Wait, T: Reporter>(
     with: &Recording<'_, D, A, R, T>,
     seats: &mut Seats<A>,
     event: &Event,
-) -> Result<Reply, Refusal>
-    ensures { (standing : Option Standing) × CallsAt 0 (Err StaleSession, None) seats.old (result, standing) seats.new
-        (MakesCall D.life A.opening event.now) }
-{
-    let _turn = with.shared.turn.lock(with.rt);
-    let (outcome, standing) = seats.call(with.rt, with.alloc, with.archive, 0, event);
-    with.shared.note(with.rt, event, &outcome);
+) -> Result<Reply, Refusal> {
+    let (outcome, standing) = noted_call(with, seats, event);
     if let Some(standing) = standing {
-        note_standing(with.shared, &standing);
+        keep_short(with, seats, &standing);
     }
     outcome
+}
+
+/// Makes a call by the pass of the seats, and notes its answer, before or after each other call that is noted. Where the archive
+/// stands after it.
+fn noted_call<D: Disk, A: Naming, R: Wait, T: Reporter>(
+    with: &Recording<'_, D, A, R, T>,
+    seats: &mut Seats<A>,
+    event: &Event,
+) -> (Result<Reply, Refusal>, Option<Standing>)
+    ensures { MakesCall D.life A.opening event.now seats.old result seats.new }
+{
+    let _turn = with.shared.turn.lock(with.rt);
+    let (outcome, standing) = seats.call(with.rt, with.alloc, with.archive, event);
+    with.shared.note(with.rt, event, &outcome);
+    (outcome, standing)
 }
 
 /// The channel of what comes to an address.

@@ -1,64 +1,64 @@
 //! The seats of the recorder sessions that images feed. docs/ARCHITECTURE.md, "Followers".
 
-ghost use Rattle.std.specs.Prelude.{◌≡◌, ◌≤◌, ◌<◌, ◌+◌, [], Err, None, pos, slice_get, vec_capacity, vec_len};
-ghost use Rattle.frame_core.specs.declared.refusal.Refusal.TheVariants.{StaleSession};
-ghost use Rattle.recorder_seats.specs.Seat.{raised_positions};
-ghost use Rattle.call_history.specs.Passes.{AllOfTable, new_passes};
+ghost use Rattle.std.specs.Prelude.{◌≡◌, ◌≤◌, ◌<◌, ◌+◌, ◌∷◌, [], IfErr, IfOk, pos, vec_capacity, vec_len};
+ghost use Rattle.frame_core.specs.declared.refusal.Refusal.TheVariants.{NoMemory};
+ghost use Rattle.control_core.specs.declared.event.Event.{Event};
+ghost use Rattle.engine_core.specs.Grouping.{segments_each};
+ghost use Rattle.call_history.specs.Passes.{new_pass, new_passes};
 ghost use Rattle.position_board.specs.Positions.{new_writers};
-ghost use Rattle.server_recorder.specs.Seats.{AreAllPasses, AreClientPasses, AreNewWriters, AreNumbered, CallsAt, HasNumbersFrom, MakesCall, SeesStanding, SettlesSession, WritesBlock, reseated};
+ghost use Rattle.archive_lock.specs.Several.{EndsWithAnswers};
+ghost use Rattle.archive_lock.specs.Standing.{standing_of};
+ghost use Rattle.recorder_seats.specs.Bench.{reseated_at};
+ghost use Rattle.server_recorder.specs.Seats.{AreAllPasses, AreClientPasses, AreNewSeats, AreNewWriters, ChangesPass, IsNewWriter, MakesCall, SeesAt, SettlesGroup, SettlesSession};
 
 use archive_lock::{Made, Naming, SharedArchive, Standing};
 use archive_model::Reply;
 use call_history::Pass;
 use control_core::Event;
-use disk_core::Disk;
-use frame_core::{Block, Refusal};
+use disk_core::{Disk, FileId};
+use frame_core::{Items, Refusal};
 use position_board::{Board, Writer};
-use recorder_seats::RecorderSeat;
+use recorder_seats::{BenchSeat, RecorderBench};
 use std::alloc::Global;
 use std::marker::{Model, PhantomData};
 use std::sync::Wait;
 use stream_pairs::{FED_SESSIONS, Seat};
 
-/// A board, and a seat for each of 64 recorder sessions that images feed, by its number, which is its pass's number too. To a
-/// contract it is the board and the seats; their passes are the archive's.
+/// A board, and a bench with a seat for each of 64 recorder sessions that images feed, by its number. To a contract it is the board
+/// and the bench; its pass is the archive's first.
 #[derive(Drop)]
 pub struct Seats<A: Naming> {
     board: Board,
-    seats: Vec<RecorderSeat>,
+    bench: RecorderBench,
     of: PhantomData<A>,
 }
 
 impl<A: Naming> Model for Seats<A> {
-    ghost use Rattle.std.specs.Prelude.{◌≡◌, vec_len};
-    ghost use Rattle.server_recorder.specs.Seats.{AreSeats, SeatsView};
+    ghost use Rattle.server_recorder.specs.Seats.{IsBench, SeatsView};
 
     ghost Value = { SeatsView };
 
-    ghost view = { λ s. record { board = s.board; seats = s.seats.items } };
+    ghost view = { λ s. record { board = s.board; bench = s.bench } };
 
-    ghost invariant = { λ s. AreSeats A.table s.board 0 s.seats.items × (vec_len s.seats ≡ 64) };
+    ghost invariant = { λ s. IsBench A.table s.board s.bench };
 }
 
-/// A board with its writers, and room for seats: all that seats take memory for. To a contract it is the board.
+/// A board, and a seat for each of its slots: all that seats take memory for. To a contract it is the board.
 #[derive(Drop)]
 pub struct SeatRoom {
     board: Board,
-    writers: Vec<Writer>,
-    seats: Vec<RecorderSeat>,
+    seats: Vec<BenchSeat>,
 }
 
 impl Model for SeatRoom {
-    ghost use Rattle.std.specs.Prelude.{◌≡◌, ◌≤◌, [], vec_capacity, vec_len};
     ghost use Rattle.atomic_table.specs.Seated.{TableId};
-    ghost use Rattle.server_recorder.specs.Seats.{AreNewWriters};
+    ghost use Rattle.server_recorder.specs.Seats.{AreNewSeats};
 
     ghost Value = { TableId };
 
     ghost view = { λ b. b.board };
 
-    ghost invariant = { λ b. AreNewWriters b.board 0 b.writers.items
-        × (vec_len b.writers ≡ 64) × (b.seats.items ≡ []) × (64 ≤ vec_capacity b.seats) };
+    ghost invariant = { λ b. AreNewSeats b.board 0 b.seats.items };
 }
 
 impl SeatRoom {
@@ -67,134 +67,124 @@ impl SeatRoom {
     pub fn new(alloc: Global) -> Result<SeatRoom, Refusal> {
         let starts = [0; FED_SESSIONS];
         let (board, writers, _) = Board::new(alloc, &starts, 0)?;
-        let seats = Vec::with_capacity(alloc, FED_SESSIONS)?;
-        Ok(SeatRoom::of_board(board, writers, seats, &starts))
+        let room = Vec::with_capacity(alloc, FED_SESSIONS)?;
+        Ok(SeatRoom::of_board(board, writers, room, &starts))
     }
 
     /// Room with a new board with these starts.
     fn of_board(
         board: Board,
         writers: Vec<Writer>,
-        seats: Vec<RecorderSeat>,
+        room: Vec<BenchSeat>,
         starts: &[i64],
     ) -> SeatRoom
         requires writers { writers.items ≡ new_writers board 0 starts.now }
         requires count { vec_len writers ≡ 64 }
-        requires seats { (seats.items ≡ []) × (64 ≤ vec_capacity seats) }
+        requires room { (room.items ≡ []) × (64 ≤ vec_capacity room) }
     {
         let _ = starts;
-        SeatRoom::of_parts(board, writers, seats)
+        let seats = seats_of(&board, writers, room);
+        SeatRoom { board, seats }
     }
 
-    fn of_parts(board: Board, writers: Vec<Writer>, seats: Vec<RecorderSeat>) -> SeatRoom
-        requires writers { AreNewWriters board 0 writers.items }
-        requires count { vec_len writers ≡ 64 }
-        requires seats { (seats.items ≡ []) × (64 ≤ vec_capacity seats) }
-    {
-        SeatRoom {
-            board,
-            writers,
-            seats,
-        }
-    }
-
-    /// A seat for each session, with the pass of its number. Does not allocate.
-    pub fn seated<A: Naming>(self, mut passes: Vec<Pass<Made>>) -> Seats<A>
-        requires { passes.items ≡ new_passes A.table 64 }
+    /// The seats, with a pass that has made no call. Does not allocate.
+    #[tactic(auto, using(crate::proofs::SeatLemmas::are_seats, crate::proofs::SeatLemmas::are_unraised))]
+    pub fn seated<A: Naming>(self, pass: Pass<Made>) -> Seats<A>
+        requires { pass ≡ new_pass A.table 0 }
         ensures { result.board ≡ self }
     {
-        let SeatRoom {
-            board,
-            mut writers,
-            mut seats,
-        } = self;
-        while let Some(writer) = writers.pop() {
-            let Some(pass) = passes.pop() else {
-                unreachable!();
-            };
-            let number = writers.len();
-            seats.push_reserved(seat_of(number, pass, writer));
-        }
-        seats.reverse();
+        let SeatRoom { board, seats } = self;
         Seats {
             board,
-            seats,
+            bench: RecorderBench::new(pass, seats),
             of: PhantomData,
         }
     }
 }
 
-/// The seat of the session of a number.
-fn seat_of(number: Seat, pass: Pass<Made>, writer: Writer) -> RecorderSeat
-    requires small { number < 64 }
-    requires none { raised_positions writer ≡ [] }
-    ensures { result ≡ record { session = pos number; pass = pass; writer = writer } }
+/// A seat for each writer of a board, by its number. Does not allocate.
+fn seats_of(board: &Board, mut writers: Vec<Writer>, mut room: Vec<BenchSeat>) -> Vec<BenchSeat>
+    requires writers { AreNewWriters board.now 0 writers.items }
+    requires count { vec_len writers ≡ 64 }
+    requires room { (room.items ≡ []) × (64 ≤ vec_capacity room) }
+    ensures { AreNewSeats board.now 0 result.items }
 {
-    RecorderSeat::new(number as i64, pass, writer)
+    let _ = board;
+    while let Some(writer) = writers.pop() {
+        let session = writers.len() as i64;
+        room.push_reserved(BenchSeat { session, writer });
+    }
+    room.reverse();
+    room
 }
 
 impl<A: Naming> Seats<A> {
     /// A seat writes and settles for the session of a number from now on. One from 64 on changes nothing.
     pub fn set_session(&mut self, seat: Seat, session: i64)
-        ensures { self.new ≡ record self.old { seats = reseated session (slice_get self.old.seats seat) seat self.old.seats } }
+        ensures { self.new ≡ record self.old {
+          bench = record self.old.bench {
+            seats = reseated_at seat session self.old.bench.seats;
+          };
+        } }
     {
-        if seat < self.seats.len() {
-            self.seats[seat].set_session(session);
-        }
+        self.bench.set_session(seat, session);
     }
 
-    /// Writes a block for the session of a seat, as `RecorderSeat::write`. `StaleSession` where it has no seat.
-    pub fn write<D: Disk, R: Wait>(
+    /// Makes several calls under one taking of the lock, as `RecorderBench::calls`: in their order, until there is no more or one
+    /// is refused.
+    pub fn calls<D: Disk, R: Wait>(
         &mut self,
         rt: &R,
         alloc: Global,
         archive: &SharedArchive<D, A>,
-        seat: Seat,
-        block: Block,
-    ) -> Result<Reply, Refusal>
-        ensures { CallsAt seat (Err StaleSession) self.old result self.new (WritesBlock D.life A.opening block) }
+        events: &[Event],
+    ) -> Result<Vec<Result<Reply, Refusal>>, Refusal>
+        ensures answers { IfOk result (λ outcomes. EndsWithAnswers D.life A.opening self.old.bench.pass
+            events.now outcomes.items self.new.bench.pass) }
+        ensures refused { IfErr result (λ refusal.
+            (refusal ≡ NoMemory) × (self.new.bench.pass ≡ self.old.bench.pass)) }
+        ensures same { ChangesPass self.old self.new }
     {
-        if seat >= self.seats.len() {
-            return Err(Refusal::StaleSession);
-        }
-        self.seats[seat].write(rt, alloc, archive, block)
+        self.bench.calls(rt, alloc, archive, events)
     }
 
-    /// Makes another call by the pass of a seat, as `RecorderSeat::call_with_standing`: its answer, and where the archive stands
-    /// after it. `StaleSession` if there is no such seat.
+    /// Makes another call, as `RecorderBench::call`: its answer, and where the archive stands after it.
     pub fn call<D: Disk, R: Wait>(
         &mut self,
         rt: &R,
         alloc: Global,
         archive: &SharedArchive<D, A>,
-        seat: Seat,
         event: &Event,
     ) -> (Result<Reply, Refusal>, Option<Standing>)
-        ensures { CallsAt seat (Err StaleSession, None) self.old result self.new (MakesCall D.life A.opening event.now) }
+        ensures { MakesCall D.life A.opening event.now self.old result self.new }
     {
-        if seat >= self.seats.len() {
-            return (Err(Refusal::StaleSession), None);
-        }
-        self.seats[seat].call_with_standing(rt, alloc, archive, event)
+        self.bench.call(rt, alloc, archive, event)
     }
 
-    /// Where the archive stands, by the pass of a seat, which takes the lock for it. None if there is no such seat.
-    pub fn standing<D: Disk, R: Wait>(
+    /// Where the archive stands. Takes the lock for it.
+    pub fn standing<D: Disk, R: Wait>(&mut self, rt: &R, archive: &SharedArchive<D, A>) -> Standing
+        ensures { SeesAt A.opening (λ d. result ≡ standing_of d) self.old self.new }
+    {
+        self.bench.standing(rt, archive)
+    }
+
+    /// The segment files of what these sessions wrote and did not settle. Takes the lock for it. `NoMemory`.
+    pub fn unsettled_segments<D: Disk, R: Wait>(
         &mut self,
         rt: &R,
+        alloc: Global,
         archive: &SharedArchive<D, A>,
-        seat: Seat,
-    ) -> Option<Standing>
-        ensures { CallsAt seat None self.old result self.new (SeesStanding A.opening) }
+        sessions: &[i64],
+    ) -> Result<Vec<FileId>, Refusal>
+        ensures { SeesAt A.opening (λ d. IfOk result (λ files. files.items ≡ segments_each d sessions.now))
+            self.old self.new }
     {
-        if seat >= self.seats.len() {
-            return None;
-        }
-        Some(self.seats[seat].standing(rt, archive))
+        self.bench.unsettled_segments(rt, alloc, archive, sessions)
     }
 
-    /// Settles the session of a seat, and raises its slot, as `RecorderSeat::settle_with_standing`: the position up to which it
-    /// is recorded, and where the archive stands after it. `StaleSession` where it has no seat.
+    /// Settles the session of a seat, and raises its slot, as `RecorderBench::settle`: the position up to which it is recorded, and
+    /// where the archive stands after it. `StaleSession` where it has no seat.
+    #[tactic(auto, using(crate::proofs::SeatLemmas::are_of_board))]
     pub fn settle<D: Disk, R: Wait>(
         &mut self,
         rt: &R,
@@ -202,65 +192,66 @@ impl<A: Naming> Seats<A> {
         archive: &SharedArchive<D, A>,
         seat: Seat,
     ) -> (Result<i64, Refusal>, Option<Standing>)
-        ensures { CallsAt seat (Err StaleSession, None) self.old result self.new (SettlesSession D.life A.opening) }
+        ensures { SettlesSession D.life A.opening seat self.old result self.new }
     {
-        if seat >= self.seats.len() {
-            return (Err(Refusal::StaleSession), None);
-        }
-        self.seats[seat].settle_with_standing(rt, alloc, archive, &self.board)
+        self.bench.settle(rt, alloc, archive, &self.board, seat)
     }
 
-    /// The passes of clients, and of all seats: all of the archive's. Does not allocate.
-    #[tactic(auto, using(crate::proofs::SeatLemmas::are_numbered))]
-    pub fn into_passes(self, clients: Vec<Pass<Made>>) -> Vec<Pass<Made>>
+    /// Settles the sessions of several seats together, and raises their slots, as `RecorderBench::settle_all`: the positions up to
+    /// which they are recorded, and where the archive stands after it.
+    #[tactic(auto, using(crate::proofs::SeatLemmas::are_of_board))]
+    pub fn settle_all<D: Disk, R: Wait>(
+        &mut self,
+        rt: &R,
+        alloc: Global,
+        archive: &SharedArchive<D, A>,
+        seats: &[Seat],
+    ) -> (Result<Items<Option<i64>>, Refusal>, Option<Standing>)
+        ensures { SettlesGroup D.life A.opening seats.now self.old result self.new }
+    {
+        self.bench
+            .settle_all(rt, alloc, archive, &self.board, seats)
+    }
+
+    /// The passes of clients, and that of the seats: all of the archive's. Does not allocate.
+    pub fn into_passes(self, mut clients: Vec<Pass<Made>>) -> Vec<Pass<Made>>
         requires clients { AreClientPasses A.table A.passes clients.items }
-        requires room { 64 + vec_len clients ≤ vec_capacity clients }
+        requires room { 1 + vec_len clients ≤ vec_capacity clients }
         ensures { AreAllPasses A.table A.passes result.items }
     {
         let Seats {
             board: _,
-            seats,
+            bench,
             of: _,
         } = self;
-        passes_of::<A>(seats, clients)
+        let (pass, _) = bench.into_parts();
+        clients.push_reserved(pass);
+        clients
     }
 }
 
-/// Passes, and those of seats after them, for which there is room.
-#[tactic(auto, using(crate::proofs::SeatLemmas::all_from))]
-fn passes_of<A: Naming>(mut seats: Vec<RecorderSeat>, mut room: Vec<Pass<Made>>) -> Vec<Pass<Made>>
-    requires seats { AreNumbered A.table 0 seats.items }
-    requires passes { AllOfTable A.table room.items }
-    requires others { HasNumbersFrom (vec_len seats) A.passes room.items }
-    requires fits { vec_len seats + vec_len room ≤ vec_capacity room }
-    ensures { AreAllPasses A.table A.passes result.items }
-{
-    while let Some(seat) = seats.pop() {
-        let (pass, _) = seat.into_parts();
-        room.push_reserved(pass);
-    }
-    room
-}
-
-/// The passes of seats, and those of clients, which come from the passes of an archive. For all of them there is room next to
-/// the latter.
+/// The pass of the seats, and those of clients, which come from the passes of an archive. For all of them there is room next to the
+/// latter.
 pub fn parted<A: Naming>(
     mut passes: Vec<Pass<Made>>,
     mut room: Vec<Pass<Made>>,
-) -> (Vec<Pass<Made>>, Vec<Pass<Made>>)
+) -> (Pass<Made>, Vec<Pass<Made>>)
     requires made { passes.items ≡ new_passes A.table A.passes }
-    requires some { 64 ≤ A.passes }
+    requires some { 1 ≤ A.passes }
     requires empty { room.items ≡ [] }
     requires room { A.passes ≤ vec_capacity room }
-    ensures seats { result.0.items ≡ new_passes A.table 64 }
+    ensures first { result.0 ≡ new_pass A.table 0 }
     ensures clients { AreClientPasses A.table A.passes result.1.items }
-    ensures room { 64 + vec_len result.1 ≤ vec_capacity result.1 }
+    ensures room { 1 + vec_len result.1 ≤ vec_capacity result.1 }
 {
-    while passes.len() > FED_SESSIONS {
+    while passes.len() > 1 {
         let Some(pass) = passes.pop() else {
             unreachable!();
         };
         room.push_reserved(pass);
     }
-    (passes, room)
+    let Some(first) = passes.pop() else {
+        unreachable!();
+    };
+    (first, room)
 }

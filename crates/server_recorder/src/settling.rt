@@ -2,8 +2,8 @@
 //!
 //! A time is in milliseconds since the recording thread began. It is None if the clock could not be read.
 
-ghost use Rattle.std.specs.Prelude.{◌≡◌, None, false, replicate, slice_set};
-ghost use Rattle.server_recorder.specs.Settling.{PassesFirst, after_block, session_settled, elapsed, is_due, is_enough, is_full, is_overdue, later, nothing_written, session_at, some_overdue, sooner};
+ghost use Rattle.std.specs.Prelude.{◌≡◌, None, false, nat_le, replicate, slice_set, true};
+ghost use Rattle.server_recorder.specs.Settling.{PassesFirst, after_block, session_settled, elapsed, is_due, is_enough, is_full, is_half_due, is_overdue, later, nothing_written, pace_after, session_at, some_overdue, sooner, with_more};
 
 use stream_pairs::{FED_SESSIONS, Place, Seat};
 
@@ -11,6 +11,8 @@ use stream_pairs::{FED_SESSIONS, Place, Seat};
 const SETTLED_IF_NONE_WAITS: u64 = 65_536;
 /// A session that wrote so many bytes settles.
 const SETTLED_ALWAYS: u64 = 1_048_576;
+/// Microseconds that a sync takes at least where segment files are flushed before they are settled.
+const SLOW_SYNC: u64 = 200;
 
 /// What a session wrote and did not settle.
 #[derive(Clone, Copy)]
@@ -43,6 +45,8 @@ pub(crate) struct Settling {
     every: u64,
     time: Option<u64>,
     sessions: [SessionState; FED_SESSIONS],
+    /// Microseconds that each of the last syncs took.
+    pace: u64,
 }
 
 impl Settling {
@@ -52,12 +56,14 @@ impl Settling {
           every = every;
           time = None;
           sessions = replicate 64 nothing_written;
+          pace = 0;
         } }
     {
         Settling {
             every,
             time: None,
             sessions: [NOTHING_WRITTEN; FED_SESSIONS],
+            pace: 0,
         }
     }
 
@@ -66,6 +72,22 @@ impl Settling {
         ensures { self.new ≡ record self.old { time = time } }
     {
         self.time = time;
+    }
+
+    /// Notes that so many syncs, one after another, took so many microseconds. None says nothing.
+    pub fn note_syncs(&mut self, micros: u64, syncs: usize)
+        ensures { self.new ≡ record self.old { pace = pace_after micros syncs self.old.pace } }
+    {
+        if syncs > 0 {
+            self.pace = micros / syncs as u64;
+        }
+    }
+
+    /// Whether the last syncs took so long that segment files are flushed before they are settled: 200 microseconds each.
+    pub fn is_slow(&self) -> bool
+        ensures { result ≡ nat_le 200 self.now.pace }
+    {
+        self.pace >= SLOW_SYNC
     }
 
     /// What the session at a seat wrote and did not settle. None if it wrote nothing.
@@ -132,6 +154,32 @@ impl Settling {
         is_asked
             || is_overdue(self.every, self.time, &state)
             || is_enough(written.bytes, block_waits)
+    }
+
+    /// Whether what the session at a seat wrote has waited for at least half as long as a block may.
+    pub fn is_half_due(&self, seat: Seat) -> bool
+        ensures { result ≡ is_half_due self.now.every self.now.time (session_at seat self.now.sessions).written }
+    {
+        let Some(written) = self.written(seat) else {
+            return false;
+        };
+        match elapsed(written.since, self.time) {
+            Some(wait) => wait >= self.every - self.every / 2,
+            None => true,
+        }
+    }
+
+    /// Whether the session of a number, at a seat, will have written so much with so many bytes more that it has to settle before
+    /// its next block is written.
+    pub fn is_full_with(&self, seat: Seat, session: i64, more: u64) -> bool
+        ensures { result ≡ is_enough true
+            (with_more session more (session_at seat self.now.sessions).written) }
+    {
+        let before = match self.written(seat) {
+            Some(written) if written.session == session => written.bytes,
+            _ => 0,
+        };
+        is_enough(before.saturating_add(more), true)
     }
 
     /// Whether the session at a seat wrote so much that it has to settle before its next block is written.

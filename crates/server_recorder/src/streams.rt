@@ -2,10 +2,11 @@
 //! asked".
 
 ghost use Rattle.std.specs.Prelude.{◌≡◌};
-ghost use Rattle.server_recorder.specs.Streams.{continued, continues, extend_fields, last_continued, or_else, segment_of, start_fields, stop_point};
+ghost use Rattle.server_recorder.specs.Streams.{continued, continues, extend_fields, finding_for, found_before, is_passed_over, last_continued, last_resumable, last_stand, or_else, resumed_stand, segment_of, stand_before, stand_or_else, start_fields, stop_point, stopped_stand, tells_stand, told_stand};
 
 use archive_model::{Channel, Descriptor, ExtendFields, SourceIdentity, StartFields};
 use frame_core::{Geometry, Publication};
+use server_state::{Resumes, Stand, is_one_stream, is_within_reach};
 use stream_pairs::StreamPoint;
 
 /// The recording that a publication goes on with which joined at a point, of recordings by rising id: the last that has its
@@ -65,6 +66,110 @@ fn stop_point(recording: &Descriptor) -> StreamPoint
             mtu: recording.mtu,
         },
         position: recording.stop_position,
+    }
+}
+
+/// What is found for an image that waits to be recorded.
+#[derive(Clone, Copy, Debug, PartialEq, Eq)]
+pub(crate) enum Finding {
+    /// A recording was stopped where it joined, and goes on.
+    Extends(i64),
+    /// The last recording of its publication stands before its setup frame, within reach.
+    StandsBefore(Stand),
+    /// A recording begins where it joined.
+    Begins,
+}
+
+/// What is found for an image that joined at a point, among recordings by rising id. Costs a step for each recording. Does not
+/// allocate.
+pub(crate) fn finding_for(
+    recordings: &[Descriptor],
+    point: &StreamPoint,
+    resumes: Resumes,
+) -> Finding
+    ensures { result ≡ finding_for resumes point.now recordings.now }
+{
+    if let Some(recording) = last_continued(recordings, point) {
+        return Finding::Extends(recording);
+    }
+    if !resumes.may_resume() {
+        return Finding::Begins;
+    }
+    match last_resumable(recordings, point) {
+        Some(stand) => Finding::StandsBefore(stand),
+        None => Finding::Begins,
+    }
+}
+
+/// Where the last recording of a publication stands, of recordings by rising id, if the publication may go on there which joined
+/// at a point.
+pub(crate) fn last_resumable(recordings: &[Descriptor], point: &StreamPoint) -> Option<Stand>
+    ensures { result ≡ last_resumable point.now recordings.now }
+{
+    match last_stand(recordings, point) {
+        Some(stand) if is_within_reach(point, stand.position) => Some(stand),
+        _ => None,
+    }
+}
+
+/// Where the last recording of a publication stands, of recordings by rising id, if it was stopped.
+pub(crate) fn stand_before(recordings: &[Descriptor], point: &StreamPoint) -> Option<Stand>
+    ensures { result ≡ stand_before point.now recordings.now }
+{
+    match last_stand(recordings, point) {
+        Some(stand) if 0 <= stand.position => Some(stand),
+        _ => None,
+    }
+}
+
+/// Where the last recording stands that has a publication's stream, session id, terms and MTU. One is passed over if nothing was
+/// recorded by it, and the publication can't go on there.
+#[tactic(auto, using(crate::proofs::StandLemmas::stand_more, crate::proofs::StandLemmas::stand_first))]
+fn last_stand(recordings: &[Descriptor], point: &StreamPoint) -> Option<Stand>
+    ensures { result ≡ last_stand point.now recordings.now }
+{
+    let mut last = None;
+    for (index, recording) in recordings.iter().enumerate() {
+        let _ = index;
+        last = stand_or_else(told_stand(recording, point), last);
+    }
+    last
+}
+
+/// Where a recording stands, if it says where a publication stands.
+fn told_stand(recording: &Descriptor, point: &StreamPoint) -> Option<Stand>
+    ensures { result ≡ told_stand point.now recording.now }
+{
+    if tells_stand(recording, point) {
+        Some(Stand {
+            recording: recording.recording,
+            position: recording.stop_position,
+        })
+    } else {
+        None
+    }
+}
+
+fn tells_stand(recording: &Descriptor, point: &StreamPoint) -> bool
+    ensures { result ≡ tells_stand point.now recording.now }
+{
+    is_one_stream(point, &stop_point(recording)) && !is_passed_over(recording, point)
+}
+
+/// Whether nothing was recorded, and a publication can't go on there.
+fn is_passed_over(recording: &Descriptor, point: &StreamPoint) -> bool
+    ensures { result ≡ is_passed_over point.now recording.now }
+{
+    recording.start_position == recording.stop_position
+        && !is_within_reach(point, recording.stop_position)
+}
+
+fn stand_or_else(stand: Option<Stand>, other: Option<Stand>) -> Option<Stand>
+    ensures { result ≡ stand_or_else stand other }
+{
+    match stand {
+        Some(stand) => Some(stand),
+        None => other,
     }
 }
 

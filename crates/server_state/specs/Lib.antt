@@ -8,3 +8,7 @@ pub mod Naming
 pub mod Handing
 pub mod Asking
 pub mod Stopwatch
+-- Checkpoints that were refused.
+pub mod Checkpointing
+-- Where a publication goes on before its setup frame.
+pub mod Resuming

@@ -1,8 +1,8 @@
 -- What a call that was answered changes of the pairs, and which pairs and misfits are reported: docs/ARCHITECTURE.md, "Images and recorder
 -- sessions".
-use Rattle.std.specs.List.{position}
+use Rattle.std.specs.List.{position, zip}
 use Rattle.std.specs.Ordering.{int_eq}
-use Rattle.std.specs.Prelude.{◌≡◌, ◌<◌, ◌==◌, ◌&&◌, ◌||◌, ℕ, ℤ, pos, int_lt, is_some, not, unsigned_abs, if◌then◌else◌, Bool, true, false, List, Option, None, Some, Result, Ok, slice_index_or, slice_set}
+use Rattle.std.specs.Prelude.{◌≡◌, ◌<◌, ◌==◌, ◌&&◌, ◌||◌, ℕ, ℤ, pos, int_lt, is_some, not, unsigned_abs, if◌then◌else◌, Bool, true, false, List, [], ◌∷◌, Option, None, Some, Result, Ok, slice_index_or, slice_set}
 use Rattle.frame_core.specs.declared.block.Publication.{Publication}
 use Rattle.frame_core.specs.declared.refusal.Refusal.{Refusal}
 use Rattle.archive_model.specs.declared.command.ExtendFields.{ExtendFields}
@@ -10,7 +10,7 @@ use Rattle.archive_model.specs.declared.command.StartFields.{StartFields}
 use Rattle.archive_model.specs.declared.reply.Reply.{Reply}
 use Rattle.archive_model.specs.declared.reply.Reply.TheVariants as replies
 use Rattle.control_core.specs.declared.event.Event.{Event}
-use Rattle.control_core.specs.declared.event.Event.TheVariants.{Ask, Settle}
+use Rattle.control_core.specs.declared.event.Event.TheVariants.{Ask, Settle, SettleAll}
 use Rattle.control_core.specs.declared.request.Request.TheVariants as requests
 use Rattle.stream_pairs.specs.declared.points.StreamPoint.{StreamPoint}
 use Rattle.stream_pairs.specs.declared.pairs.JoinedImage.{JoinedImage}
@@ -58,6 +58,15 @@ settled_at (Some n) position s = after_settled n position s
 abbrev pub after_settling : ℤ → ℤ → PairsState → PairsState
 after_settling session position s = settled_at (seat_of session s) position s
 
+-- sessions that were settled together are recorded, each up to its own position, if it has one
+abbrev pub after_settling_to : ℤ → Option ℤ → PairsState → PairsState
+after_settling_to session None s = s
+after_settling_to session (Some position) s = after_settling session position s
+
+abbrev pub after_settlings : List (ℤ × Option ℤ) → PairsState → PairsState
+after_settlings [] s = s
+after_settlings (settling ∷ settlings) s = after_settlings settlings (after_settling_to settling.0 settling.1 s)
+
 -- a recording was stopped, and its session's seat is given back, or not
 abbrev pub after_stopping : Bool → ℤ → PairsState → PairsState
 after_stopping gives_back recording s = if gives_back then after_released recording s else after_stopped recording s
@@ -67,6 +76,7 @@ abbrev pub after_noted : Bool → Event → Reply → PairsState → PairsState
 after_noted gives_back (Ask (requests.Start fields)) (replies.Started recording session) s = after_opening gives_back session recording (start_point fields) s
 after_noted gives_back (Ask (requests.Extend fields)) (replies.Extended session) s = after_opening gives_back session fields.recording (extend_point fields) s
 after_noted gives_back (Settle session) (replies.Settled position) s = after_settling session position s
+after_noted gives_back (SettleAll sessions) (replies.SettledAll positions) s = after_settlings (zip sessions positions) s
 after_noted gives_back (Ask (requests.Stop recording timestamp)) (replies.Stopped position) s = after_stopping gives_back recording s
 after_noted gives_back event reply s = s
 

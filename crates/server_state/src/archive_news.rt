@@ -2,7 +2,7 @@
 
 use crate::refusal_text::RefusalText;
 use std::fmt;
-use tool_core::{Beginning, HistoryUse};
+use tool_core::{Beginning, CheckpointOutcome, HistoryUse};
 
 /// What happened to the archive.
 #[derive(Clone, Copy, Drop)]
@@ -13,6 +13,8 @@ pub enum ArchiveNews {
     DeviceFault,
     /// How much of its history it has used.
     HistoryUsed(HistoryUse),
+    /// What became of a checkpoint.
+    Checkpoint(CheckpointOutcome),
 }
 
 impl ArchiveNews {
@@ -21,6 +23,7 @@ impl ArchiveNews {
         match self {
             ArchiveNews::Began(Beginning::Refused(_)) => true,
             ArchiveNews::DeviceFault => true,
+            ArchiveNews::Checkpoint(CheckpointOutcome::Refused(_)) => true,
             _ => false,
         }
     }
@@ -32,6 +35,7 @@ impl fmt::Display for ArchiveNews {
             ArchiveNews::Began(beginning) => write_beginning(f, beginning),
             ArchiveNews::DeviceFault => f.write_str("a call was answered by a device fault"),
             ArchiveNews::HistoryUsed(history) => write!(f, "{history}"),
+            ArchiveNews::Checkpoint(outcome) => write!(f, "{outcome}"),
         }
     }
 }

@@ -1,5 +1,7 @@
 //! What a server reports of its clients.
 
+use crate::refusal_text::RefusalText;
+use frame_core::Refusal;
 use start_faults::StartWord;
 use std::fmt;
 
@@ -10,6 +12,22 @@ pub enum ClientNews<'a> {
     LeftReplays(&'a [i64]),
     /// Its start is BadParameter, as this word is wrong.
     WrongWord(StartWord),
+    /// It follows a recording, and no frame can be sent any more from this position on.
+    FollowingFailed {
+        /// The recording's id.
+        recording: i64,
+        /// Where the next frame would begin, in bytes of the stream.
+        position: i64,
+        /// Why.
+        cause: Refusal,
+    },
+}
+
+impl ClientNews<'_> {
+    /// Whether it is a fault.
+    pub fn is_fault(&self) -> bool {
+        matches!(self, ClientNews::FollowingFailed { .. })
+    }
 }
 
 impl fmt::Display for ClientNews<'_> {
@@ -17,6 +35,17 @@ impl fmt::Display for ClientNews<'_> {
         match self {
             ClientNews::LeftReplays(replays) => write_replays(f, replays),
             ClientNews::WrongWord(word) => write!(f, "{word}"),
+            ClientNews::FollowingFailed {
+                recording,
+                position,
+                cause,
+            } => {
+                let cause = RefusalText(*cause);
+                write!(
+                    f,
+                    "a follower of recording {recording} ended at {position}: {cause}"
+                )
+            }
         }
     }
 }

@@ -3,6 +3,7 @@
 ghost use Rattle.std.specs.Prelude.{◌≡◌, ◌↔◌, ◌<◌, IsSome, vec_len};
 
 use crate::counted::{Counted, ImageCounted};
+use metrics_text::ResumeMeasures;
 use std::alloc::{AllocError, Global};
 use std::sync::atomic::{AtomicU64, Ordering};
 use stream_pairs::{MAX_IMAGES, Place};
@@ -75,6 +76,16 @@ pub struct Counts {
     pub datagrams: Count,
     /// Images that joined.
     pub images: Count,
+    /// Holes between recordings of one publication.
+    pub holes: Count,
+    /// Bytes of them.
+    pub hole_bytes: Count,
+    /// Images that began where a recording stands, before their publications' setup frames.
+    pub resumed: Count,
+    /// Bytes that were missing before setup frames, and came.
+    pub resumed_bytes: Count,
+    /// Images of those that wait for no bytes any more.
+    pub resumed_ends: Count,
     /// What was counted of images that left.
     left: ImageCounts,
     /// By the images' places.
@@ -93,6 +104,11 @@ impl Counts {
             connections: Count::new(),
             datagrams: Count::new(),
             images: Count::new(),
+            holes: Count::new(),
+            hole_bytes: Count::new(),
+            resumed: Count::new(),
+            resumed_bytes: Count::new(),
+            resumed_ends: Count::new(),
             left: ImageCounts::new(),
             of_images,
         })
@@ -121,6 +137,18 @@ impl Counts {
             self.left.lost.add(counted.lost);
             self.left.requests.add(counted.requests);
             counts.clear();
+        }
+    }
+
+    /// What was counted of publications that came back.
+    pub fn resumes(&self) -> ResumeMeasures {
+        let resumed = self.resumed.get();
+        ResumeMeasures {
+            holes: self.holes.get(),
+            hole_bytes: self.hole_bytes.get(),
+            resumed,
+            resumed_bytes: self.resumed_bytes.get(),
+            resuming: resumed.saturating_sub(self.resumed_ends.get()),
         }
     }
 

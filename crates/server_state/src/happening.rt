@@ -3,7 +3,9 @@
 use crate::archive_news::ArchiveNews;
 use crate::client_news::ClientNews;
 use crate::counted::Counted;
+use crate::gap_news::GapNews;
 use crate::image_news::ImageNews;
+use crate::resume_news::ResumeNews;
 use crate::session_news::SessionNews;
 use std::fmt;
 use std::net::SocketAddr;
@@ -18,10 +20,19 @@ pub enum Happening<'a> {
         /// Where datagrams come to.
         receive: SocketAddr,
     },
+    /// The port is bound that lines of clients come to which only read.
+    BoundConsumers {
+        /// Where these lines come to.
+        consumers: SocketAddr,
+    },
     /// Something of the archive.
     Archive(ArchiveNews),
     /// Something of an image, or of the places of images.
     Image(ImageNews),
+    /// Something of a gap of an image.
+    Gap(GapNews),
+    /// Something of a publication that came back.
+    Resume(ResumeNews),
     /// Something of a recorder session that images feed, or of the seats of such sessions.
     Session(SessionNews),
     /// Something of a client.
@@ -36,7 +47,10 @@ impl Happening<'_> {
         match self {
             Happening::Archive(news) => news.is_fault(),
             Happening::Image(news) => news.is_fault(),
+            Happening::Gap(news) => news.is_fault(),
+            Happening::Resume(news) => news.is_fault(),
             Happening::Session(news) => news.is_fault(),
+            Happening::Client(news) => news.is_fault(),
             _ => false,
         }
     }
@@ -56,8 +70,13 @@ impl fmt::Display for Happening<'_> {
             Happening::Bound { control, receive } => {
                 write!(f, "control lines on {control}, datagrams on {receive}")
             }
+            Happening::BoundConsumers { consumers } => {
+                write!(f, "lines of consumers on {consumers}")
+            }
             Happening::Archive(news) => write!(f, "{news}"),
             Happening::Image(news) => write!(f, "{news}"),
+            Happening::Gap(news) => write!(f, "{news}"),
+            Happening::Resume(news) => write!(f, "{news}"),
             Happening::Session(news) => write!(f, "{news}"),
             Happening::Client(news) => write!(f, "{news}"),
             Happening::Ended(counted) => write!(f, "ended: {counted}"),

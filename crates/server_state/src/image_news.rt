@@ -40,6 +40,11 @@ pub enum ImageNews {
         /// Why.
         cause: Refusal,
     },
+    /// The server does not record an image by itself yet: it has begun as many recordings as it may within a short time.
+    TooManyBegun {
+        /// The image's number.
+        image: ImageNumber,
+    },
     /// The place of an image is given back: it is not live any more, was lost, or its session has ended.
     Left {
         /// The image's number.
@@ -59,6 +64,7 @@ impl ImageNews {
         match self {
             ImageNews::NoWindow { .. } => true,
             ImageNews::NotRecorded { .. } => true,
+            ImageNews::TooManyBegun { .. } => true,
             _ => false,
         }
     }
@@ -83,6 +89,10 @@ impl fmt::Display for ImageNews {
                 f,
                 "image {image} is not recorded: {}",
                 RefusalText(*cause)
+            ),
+            ImageNews::TooManyBegun { image } => write!(
+                f,
+                "image {image} is not recorded: 64 recordings were begun in a short time"
             ),
             ImageNews::Left { image, counted } => write!(f, "image {image} has left: {counted}"),
             ImageNews::Last => f.write_str(

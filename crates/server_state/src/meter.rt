@@ -23,6 +23,10 @@ pub struct Meter {
     replays_closed: Count,
     entries: Count,
     limit: Count,
+    /// Checkpoints that were made.
+    pub checkpoints: Count,
+    /// Checkpoints that were refused.
+    pub refused_checkpoints: Count,
     is_open: AtomicBool,
     is_broken: AtomicBool,
 }
@@ -43,6 +47,8 @@ impl Meter {
             replays_closed: Count::new(),
             entries: Count::new(),
             limit: Count::new(),
+            checkpoints: Count::new(),
+            refused_checkpoints: Count::new(),
             is_open: AtomicBool::new(false),
             is_broken: AtomicBool::new(false),
         }
@@ -69,6 +75,11 @@ impl Meter {
     pub(crate) fn set_history(&self, counted: u64, limit: u32) {
         self.entries.set(counted);
         self.limit.set(u64::from(limit));
+    }
+
+    /// How many entries of the history counted when it was noted last.
+    pub fn entries(&self) -> u64 {
+        self.entries.get()
     }
 
     /// A settle was made, which took so many microseconds.
@@ -101,6 +112,8 @@ impl Meter {
             is_full: is_open && entries >= limit,
             entries,
             limit,
+            checkpoints: self.checkpoints.get(),
+            refused_checkpoints: self.refused_checkpoints.get(),
         }
     }
 

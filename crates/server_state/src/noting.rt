@@ -1,7 +1,8 @@
 //! What a call that was answered changes of the pairs. docs/ARCHITECTURE.md, "Images and recorder sessions".
 
 ghost use Rattle.std.specs.Prelude.{◌≡◌};
-ghost use Rattle.server_state.specs.Noting.{after_noted, after_opening, after_settling, after_stopping, extend_point, opened_at, seat_of_opening, settled_at, start_point};
+ghost use Rattle.std.specs.List.{zip};
+ghost use Rattle.server_state.specs.Noting.{after_noted, after_opening, after_settling, after_settling_to, after_settlings, after_stopping, extend_point, opened_at, seat_of_opening, settled_at, start_point};
 ghost use Rattle.stream_pairs.specs.Pairs.{seat_of};
 
 use archive_model::{ExtendFields, Reply, StartFields};
@@ -9,7 +10,7 @@ use control_core::{Event, Request};
 use frame_core::{Geometry, Publication};
 use stream_pairs::{Pairs, Seat, StreamPoint};
 
-/// Notes a call that was answered Ok: a session that a start or an extension opened, a position that was settled, a recording
+/// Notes a call that was answered Ok: a session that a start or an extension opened, positions that were settled, a recording
 /// that was stopped, whose session's seat is given back, or not. Other calls change nothing.
 pub(crate) fn note(pairs: &mut Pairs, gives_back: bool, event: &Event, reply: &Reply)
     ensures { pairs.new ≡ after_noted gives_back event.now reply.now pairs.old }
@@ -29,6 +30,9 @@ pub(crate) fn note(pairs: &mut Pairs, gives_back: bool, event: &Event, reply: &R
         }
         (Event::Settle { session }, Reply::Settled { position }) => {
             note_settled(pairs, session, position);
+        }
+        (Event::SettleAll { sessions }, Reply::SettledAll { positions }) => {
+            note_group(pairs, sessions.as_slice(), positions.as_slice());
         }
         (
             Event::Ask(
@@ -91,6 +95,23 @@ fn note_settled(pairs: &mut Pairs, session: &i64, position: &i64)
     ensures { pairs.new ≡ after_settling session.now position.now pairs.old }
 {
     settle(pairs, *session, *position);
+}
+
+/// Sessions are recorded, each up to its own position, if it has one.
+fn note_group(pairs: &mut Pairs, sessions: &[i64], positions: &[Option<i64>])
+    ensures { pairs.new ≡ after_settlings (zip sessions.now positions.now) pairs.old }
+{
+    for (session, position) in sessions.iter().zip(positions) {
+        note_settled_to(pairs, session, position);
+    }
+}
+
+fn note_settled_to(pairs: &mut Pairs, session: &i64, position: &Option<i64>)
+    ensures { pairs.new ≡ after_settling_to session.now position.now pairs.old }
+{
+    if let Some(position) = position {
+        note_settled(pairs, session, position);
+    }
 }
 
 /// The session of a number is recorded up to a position.

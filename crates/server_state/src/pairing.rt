@@ -3,9 +3,11 @@
 ghost use Rattle.std.specs.Prelude.{◌≡◌, ◌<◌, None, replicate};
 ghost use Rattle.std.specs.List.{position};
 ghost use Rattle.stream_pairs.specs.Pairs.{feeds, seat_of};
+ghost use Rattle.server_state.specs.Resuming.{GoesOnAt, seat_stand};
 ghost use Rattle.server_state.specs.Noting.{ReportsMisfit, ReportsNext, after_noted, after_refusing, fed_key, fed_session, has_key, image_key, is_over, is_reported, is_unfed, key_at, lost_key, misfit_at, misfit_of, misfit_with, unreported_misfit, waiting_image, waiting_with, waits, seated_session, fed_at, unreported_image};
 
 use crate::noting::note;
+use crate::resuming::{Stand, slot_stand};
 use archive_model::Reply;
 use control_core::Event;
 use frame_core::Publication;
@@ -247,6 +249,25 @@ impl Pairing {
         } else {
             Some(image)
         }
+    }
+
+    /// Where the session of the least seat stands that is open, has no image, and stands where a publication may go on which
+    /// joined at a point.
+    pub fn stand_for(&self, join: &StreamPoint) -> Option<Stand>
+        ensures { GoesOnAt join.now self.now.pairs result }
+    {
+        for seat in 0..FED_SESSIONS {
+            if let Some(stand) = self.seat_stand(seat, join) {
+                return Some(stand);
+            }
+        }
+        None
+    }
+
+    fn seat_stand(&self, seat: Seat, join: &StreamPoint) -> Option<Stand>
+        ensures { result ≡ seat_stand seat join.now self.now.pairs }
+    {
+        slot_stand(join, self.pairs.slot(seat))
     }
 
     /// The session of a number was refused: the image that it loses, if it has one.

@@ -4,6 +4,7 @@ ghost use Rattle.std.specs.Prelude.{◌≡◌};
 ghost use Rattle.server_state.specs.Noting.{opens_session};
 
 use crate::archive_news::ArchiveNews;
+use crate::checkpointing::Checkpointing;
 use crate::client_news::ClientNews;
 use crate::counts::Counts;
 use crate::happening::Happening;
@@ -13,10 +14,14 @@ use crate::measuring::recordings_of;
 use crate::meter::Meter;
 use crate::naming::named_word;
 use crate::noting::settle;
-use crate::pairing::{FedSession, ImageKey, Pairing};
+use crate::origins::{Found, Origin, Origins};
+use crate::pairing::{FedSession, ImageKey, Misfit, Pairing};
 use crate::queue::Queue;
 use crate::reporter::Reporter;
+use crate::resume_news::ResumeNews;
+use crate::resuming::{Resumes, Stand, is_resumable};
 use crate::session_news::SessionNews;
+use crate::settle_notice::SettleNotice;
 use archive_model::Reply;
 use control_core::Event;
 use frame_core::Refusal;
@@ -26,17 +31,30 @@ use std::net::{SocketAddr, UdpSocket};
 use std::sync::atomic::{AtomicBool, AtomicU8, Ordering};
 use std::sync::{Mutex, Wait};
 use stream_pairs::{FED_SESSIONS, ImageNumber, MAX_IMAGES, Pairs, Place, Seat, StreamPoint};
-use tool_core::HistoryUse;
+use tool_core::{CheckpointOutcome, HistoryUse};
 
 /// An image that waits for a session.
-#[derive(Clone, Copy)]
+#[derive(Clone, Copy, Drop)]
 pub struct WaitingImage {
-    /// Its number.
-    pub number: ImageNumber,
+    /// Its place and its number.
+    pub key: ImageKey,
     /// Where it joined.
     pub point: StreamPoint,
     /// Who sent its setup frame.
     pub sender: Option<SocketAddr>,
+    /// Whether it may go on before that.
+    pub resumes: Resumes,
+    /// What the recording thread found for it.
+    pub found: Found,
+}
+
+/// An image that goes on where a recording stands, before its publication's setup frame.
+#[derive(Clone, Copy, Drop)]
+pub struct Resumption {
+    /// The image.
+    pub image: WaitingImage,
+    /// Where the recording stands.
+    pub stand: Stand,
 }
 
 /// What the thread that receives measures of datagrams.
@@ -59,20 +77,26 @@ pub struct SharedOptions {
     pub is_strict: bool,
     /// Whether it is measured.
     pub is_measured: bool,
+    /// Whether it makes checkpoints.
+    pub makes_checkpoints: bool,
 }
 
 /// What the threads share. A method takes one lock at most, and reports what happened when it has none.
 #[derive(Drop)]
 pub struct Shared<T> {
     pairing: Mutex<Pairing>,
-    /// Who sent the setup frames of images, by their places.
-    senders: Mutex<[Option<SocketAddr>; MAX_IMAGES]>,
+    /// Where images come from, by their places.
+    origins: Mutex<Origins>,
     /// Blocks on their way.
     pub queue: Queue,
+    /// Wakes those who wait until something more is settled.
+    pub settles: SettleNotice,
     /// What is counted.
     pub counts: Counts,
     /// What is counted for the metrics alone.
     pub meter: Meter,
+    /// When checkpoints are made.
+    pub checkpointing: Checkpointing,
     ends: AtomicBool,
     looks_round: AtomicBool,
     /// Calls that make entries are made and noted one after another.
@@ -98,10 +122,12 @@ impl<T: Reporter> Shared<T> {
         };
         Ok(Shared {
             pairing: Mutex::new(Pairing::new(pairs, options.gives_back)),
-            senders: Mutex::new([None; MAX_IMAGES]),
+            origins: Mutex::new(Origins::new()),
             queue: Queue::new(alloc)?,
+            settles: SettleNotice::new(),
             counts: Counts::new(alloc)?,
             meter: Meter::new(options.is_measured),
+            checkpointing: Checkpointing::new(options.makes_checkpoints),
             ends: AtomicBool::new(false),
             looks_round: AtomicBool::new(false),
             turn: Mutex::new(()),
@@ -117,6 +143,22 @@ impl<T: Reporter> Shared<T> {
     /// Reports what happened.
     pub fn report(&self, happening: &Happening<'_>) {
         self.reporter.report(happening);
+    }
+
+    /// Reports something of a publication that came back, and counts it.
+    pub fn report_resume(&self, news: ResumeNews) {
+        match &news {
+            ResumeNews::Resumes { .. } => self.counts.resumed.add(1),
+            ResumeNews::Filled { bytes, .. } => self.counts.resumed_bytes.add(*bytes),
+            ResumeNews::Hole { from, to, .. } => {
+                self.counts.holes.add(1);
+                self.counts
+                    .hole_bytes
+                    .add(to.saturating_sub(*from).unsigned_abs());
+            }
+            ResumeNews::WentBack { .. } => {}
+        }
+        self.report(&Happening::Resume(news));
     }
 
     /// Reports the end, with what was counted.
@@ -166,6 +208,7 @@ impl<T: Reporter> Shared<T> {
                 status_messages: received.status_messages,
                 images: counted.images,
             },
+            resumes: self.counts.resumes(),
             clients: self.meter.clients(counted.connections),
             recordings,
             images,
@@ -228,6 +271,10 @@ impl<T: Reporter> Shared<T> {
                         self.report_session(rt, *session);
                         true
                     }
+                    Reply::Settled { .. } => {
+                        self.settles.note(rt);
+                        false
+                    }
                     _ => false,
                 }
             }
@@ -266,6 +313,7 @@ impl<T: Reporter> Shared<T> {
     /// So many entries of the history count, and so many may: reported at 90, 95 and 99 hundredths, each once.
     pub fn note_history(&self, counted: u64, limit: u32) {
         self.meter.set_history(counted, limit);
+        self.checkpointing.note(counted, limit);
         let history = HistoryUse { counted, limit };
         let level = history.level();
         if level > 0 && self.history.fetch_max(level, Ordering::SeqCst) < level {
@@ -273,17 +321,42 @@ impl<T: Reporter> Shared<T> {
         }
     }
 
-    /// An image joined, whose setup frame came from there. Its place and its number.
+    /// A checkpoint ended so, with which so many entries count, of so many that may. It is reported if it was made, and each
+    /// cause of a refusal once. Warnings of a history that fills up come again after one that was made.
+    pub fn note_checkpoint(&self, outcome: &CheckpointOutcome, counted: u64, limit: u32) {
+        match outcome {
+            CheckpointOutcome::Made { .. } => {
+                self.history.store(0, Ordering::SeqCst);
+                self.meter.checkpoints.add(1);
+            }
+            CheckpointOutcome::Refused(cause) => {
+                self.note_refusal(cause);
+                self.meter.refused_checkpoints.add(1);
+            }
+        }
+        if self.checkpointing.ended(outcome, counted, limit) {
+            self.report(&Happening::Archive(ArchiveNews::Checkpoint(*outcome)));
+        }
+    }
+
+    /// An image joined, whose setup frame came from there, and which may go on before that, or not. Its place and its number.
     pub fn joined<R: Wait>(
         &self,
         rt: &R,
         point: StreamPoint,
         sender: Option<SocketAddr>,
+        resumes: Resumes,
     ) -> Option<ImageKey> {
         let place = self.pairing.lock(rt).pairs.joined(point)?;
-        if place < MAX_IMAGES {
-            self.senders.lock(rt)[place] = sender;
-        }
+        let key = self.key_at(rt, place)?;
+        let origin = Origin {
+            number: key.number,
+            sender,
+            resumes,
+            found: Found::Unasked,
+            is_refused: false,
+        };
+        self.origins.lock(rt).put(place, origin);
         let count = self.pairing.lock(rt).pairs.image_count();
         self.counts.images.add(1);
         if count == MAX_IMAGES {
@@ -293,7 +366,7 @@ impl<T: Reporter> Shared<T> {
                 &Happening::Image(ImageNews::Last)
             });
         }
-        self.pairing.lock(rt).key_at(place)
+        Some(key)
     }
 
     /// The place of an image is given back.
@@ -313,15 +386,43 @@ impl<T: Reporter> Shared<T> {
     /// The image at a place, if it waits for a session.
     pub fn waiting<R: Wait>(&self, rt: &R, place: Place) -> Option<WaitingImage> {
         let image = self.pairing.lock(rt).waiting(place)?;
-        let sender = match self.senders.lock(rt).get(place) {
-            Some(sender) => *sender,
-            None => None,
-        };
-        Some(WaitingImage {
+        let key = ImageKey {
+            place,
             number: image.number,
+        };
+        let origin = self.origins.lock(rt).of(&key)?;
+        Some(WaitingImage {
+            key,
             point: image.join,
-            sender,
+            sender: origin.sender,
+            resumes: origin.resumes,
+            found: origin.found,
         })
+    }
+
+    /// The image at a place, if it waits for a session and may go on before its setup frame, and where: where the recording
+    /// thread found a recording of it, or where an open session without an image stands.
+    pub fn resumption<R: Wait>(&self, rt: &R, place: Place) -> Option<Resumption> {
+        let image = self.waiting(rt, place)?;
+        if !image.resumes.may_resume() {
+            return None;
+        }
+        let stand = match image.found {
+            Found::Stands(stand) => stand,
+            _ => self.pairing.lock(rt).stand_for(&image.point)?,
+        };
+        Some(Resumption { image, stand })
+    }
+
+    /// The recording thread has found this for an image, if it is at its place still.
+    pub fn found<R: Wait>(&self, rt: &R, key: &ImageKey, found: Found) {
+        self.origins.lock(rt).note(key, found);
+    }
+
+    /// Where the image at a place comes from.
+    pub fn origin_at<R: Wait>(&self, rt: &R, place: Place) -> Option<Origin> {
+        let key = self.key_at(rt, place)?;
+        self.origins.lock(rt).of(&key)
     }
 
     /// Whether the place of an image may be given back, whether it is live or not: it was lost, or its session has ended.
@@ -349,12 +450,34 @@ impl<T: Reporter> Shared<T> {
             let Some(misfit) = self.pairing.lock(rt).next_misfit() else {
                 return;
             };
+            if self.is_resumed(rt, &misfit) {
+                continue;
+            }
             self.report(&Happening::Session(SessionNews::Misfit {
                 image: misfit.image,
                 session: misfit.session,
                 joined: misfit.joined,
                 recorded: misfit.recorded,
             }));
+        }
+    }
+
+    /// Whether the image of a misfit goes on where the recording stands, before its setup frame.
+    fn is_resumed<R: Wait>(&self, rt: &R, misfit: &Misfit) -> bool {
+        if !self.gives_back || !is_resumable(&misfit.joined, &misfit.recorded) {
+            return false;
+        }
+        let place = self
+            .pairing
+            .lock(rt)
+            .pairs
+            .image_of(&misfit.joined.publication);
+        match place {
+            Some(place) => match self.origin_at(rt, place) {
+                Some(origin) => origin.resumes.may_resume(),
+                None => true,
+            },
+            None => false,
         }
     }
 
@@ -388,6 +511,7 @@ impl<T: Reporter> Shared<T> {
     /// A session settled, and is recorded up to a position.
     pub fn settled<R: Wait>(&self, rt: &R, session: i64, position: i64) {
         settle(&mut self.pairing.lock(rt).pairs, session, position);
+        self.settles.note(rt);
     }
 
     /// The open session that writes a recording is to settle at once, if there is one. Its seat. Waits for nothing.
@@ -420,6 +544,7 @@ impl<T: Reporter> Shared<T> {
         self.note_refusal(&cause);
         let lost = self.pairing.lock(rt).refused(session);
         if let Some(lost) = lost {
+            self.origins.lock(rt).refuse(&lost);
             self.report(&Happening::Session(SessionNews::Lost {
                 image: lost.number,
                 session,

@@ -1,4 +1,4 @@
--- What a follower is sent: docs/ARCHITECTURE.md, "Followers".
+-- What a follower is sent: docs/PROTOCOL.md, "Following a recording".
 use Rattle.std.specs.Prelude.{◌≡◌, ◌++◌, ◌^◌, ◌*ℤ◌, ℕ, ℤ, pos, Bool, IsTrue, int_lt, List, [], ◌∷◌, unsigned_abs}
 use Rattle.frame_core.specs.declared.block.Publication.{Publication}
 use Rattle.frame_core.specs.declared.frame.Frame.{Frame}

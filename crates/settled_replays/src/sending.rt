@@ -1,4 +1,4 @@
-//! What a follower is sent by a turn. docs/ARCHITECTURE.md, "Followers".
+//! What a follower is sent by a turn. docs/PROTOCOL.md, "Following a recording".
 
 ghost use Rattle.std.specs.Prelude.{◌≡◌, ◌⊎◌, ◌≤ℤ◌, [], pos, IsErrOf, OnErr, OnOk};
 ghost use Rattle.frame_core.specs.declared.refusal.Refusal.TheVariants.{DeviceFault};

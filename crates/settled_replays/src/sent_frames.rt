@@ -1,4 +1,4 @@
-//! Frames as a follower is sent them. docs/ARCHITECTURE.md, "Followers".
+//! Frames as a follower is sent them. docs/PROTOCOL.md, "Following a recording".
 
 ghost use Rattle.std.specs.Prelude.{◌≡◌, ◌-◌, ◌++◌, [], length, replicate, take, OnErr, OnOk};
 ghost use Rattle.frame_core.specs.FrameEncoding.{aligned_length, encoded, frame_of, header_of, stored};

@@ -1,4 +1,4 @@
-//! Heartbeats that a follower is sent. docs/ARCHITECTURE.md, "Followers".
+//! Heartbeats that a follower is sent. docs/PROTOCOL.md, "Following a recording".
 
 ghost use Rattle.std.specs.Prelude.{◌≡◌, ◌<◌, ◌^◌, pos, IsTrue, MatchOption, false};
 ghost use Rattle.frame_core.specs.FrameEncoding.{frame_of};

@@ -37,7 +37,7 @@ fn words_of<'a>(
     })
 }
 
-/// Each option at its limits, and lines before and after options. Words after `--` are lines, whatever they begin with.
+/// `ask` takes each option at its limits, before and after its lines. Words after `--` are lines, whatever they begin with.
 #[test]
 fn ask_has_its_words(rt: HostRuntime) -> Result<(), Fail> {
     for (line, port, lines, until, wait) in [
@@ -81,7 +81,7 @@ fn ask_has_its_words(rt: HostRuntime) -> Result<(), Fail> {
     Ok(())
 }
 
-/// A value that is out of its range, or not a number.
+/// A port or a wait of `ask` that is out of its range, or not a number, is a usage error.
 #[test]
 fn words_of_ask_out_of_range(rt: HostRuntime) -> Result<(), Fail> {
     for (words, value) in [
@@ -100,6 +100,7 @@ fn words_of_ask_out_of_range(rt: HostRuntime) -> Result<(), Fail> {
     Ok(())
 }
 
+/// `ask` without a line is a usage error that names the missing word.
 #[test]
 fn a_missing_line(rt: HostRuntime) -> Result<(), Fail> {
     let line = "archive_tool ask 8010";
@@ -193,7 +194,8 @@ fn goes_so<
     Some(is_heard && is_right)
 }
 
-/// Replies of one line and of several, a refusal, a connection that ends early or within a line, and an awaited reply.
+/// `ask` prints replies of one line and of several. It ends by what came: a refusal, an early end, a line cut off, or the awaited
+/// reply.
 #[test]
 fn what_a_server_answers(rt: HostRuntime) {
     for (lines, until, replies, told, status) in [
@@ -274,6 +276,7 @@ fn fails_to_print<
     ended.status() == 3
 }
 
+/// `ask` ends with status 3 if its output takes nothing.
 #[test]
 fn an_output_that_takes_nothing(rt: HostRuntime) -> Result<(), Fail> {
     let listener = TcpListener::bind(&rt, "127.0.0.1:0")?;
@@ -307,7 +310,7 @@ fn is_unanswered<
         && out.is_empty()
 }
 
-/// A server that takes a connection and sends nothing, and a port that nobody listens on.
+/// `ask` ends with status 3 and says why, if a server sends nothing in time, or nobody listens on the port.
 #[test]
 fn nobody_answers(rt: HostRuntime) -> Result<(), Fail> {
     let listener = TcpListener::bind(&rt, "127.0.0.1:0")?;
@@ -351,7 +354,7 @@ fn long_line(alloc: Global, length: usize) -> Result<String, AllocError> {
     Ok(line)
 }
 
-/// With their ends lines have at most 65,536 bytes.
+/// Lines of 65,536 bytes with their ends are sent. One byte more is a usage error.
 #[test]
 fn the_longest_lines(rt: HostRuntime) -> Result<(), Fail> {
     let refused = "no server on port 1: Connection refused";
@@ -454,7 +457,8 @@ fn free_ports(rt: HostRuntime) -> io::Result<(u32, u32)> {
     Ok((u32::from(control.port()), u32::from(receive.port())))
 }
 
-/// A served archive in one process: two lines, a reply of several lines, a refusal, an awaited reply, and a line after `quit`.
+/// `ask` asks a served archive in one process: two lines, a reply of several lines, a refusal, an awaited reply, and a line after
+/// `quit`.
 #[test]
 fn a_served_archive(rt: HostRuntime) -> Result<(), Fail> {
     let folder = unused(rt, "asked")?;

@@ -53,8 +53,8 @@ impl<'a> Server for Pieces<'a> {
     }
 }
 
-/// A line that comes in pieces, a read that is interrupted, and a connection that fails before and after a whole reply. What came
-/// before is printed.
+/// What came is printed and judged, also in pieces, after an interrupted read, and if the connection fails before or after a
+/// whole reply.
 #[test]
 fn replies_in_pieces(rt: HostRuntime) {
     for (pieces, printed, verdict) in [
@@ -99,7 +99,7 @@ fn replies_in_pieces(rt: HostRuntime) {
     }
 }
 
-/// Nobody is there, and the output takes nothing.
+/// A server that can't be reached is a fault, and nothing is printed.
 #[test]
 fn faults_of_a_client(rt: HostRuntime) {
     let mut out = Vec::new(rt.alloc());

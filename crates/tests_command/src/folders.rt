@@ -50,7 +50,7 @@ pub(crate) fn ended<
 }
 
 /// The status with which it ends.
-fn status_of<
+pub(crate) fn status_of<
     R: Threads + Wait + Clock + Eprint + Net<Listener = TcpListener, Stream = TcpStream> + Sync,
     I: Read + Drop,
     W: Write,
@@ -59,7 +59,7 @@ fn status_of<
 }
 
 /// What a command writes has to be this, and its status that.
-fn check<
+pub(crate) fn check<
     R: Threads + Wait + Clock + Eprint + Net<Listener = TcpListener, Stream = TcpStream> + Sync,
 >(net: &R, rt: HostRuntime, command: ToolCommand<'_>, told: &str, status: u8) -> Result<(), Fail> {
     let mut out = Vec::new(rt.alloc());
@@ -84,7 +84,7 @@ pub(crate) fn record(rt: HostRuntime, folder: &str) -> Result<(), Fail> {
 }
 
 /// The same in its second recording.
-fn record_more(rt: HostRuntime, folder: &str) -> Result<(), Fail> {
+pub(crate) fn record_more(rt: HostRuntime, folder: &str) -> Result<(), Fail> {
     script(rt, folder, b"started 1 0\nsettled 64\n")
 }
 
@@ -123,12 +123,15 @@ fn command<'a>(word: Word, folder: &'a str, file: &'a str) -> ToolCommand<'a> {
         Word::List | Word::ListReadOnly => ToolCommand::List {
             folder,
             read_only: matches!(word, Word::ListReadOnly),
+            wait: None,
         },
         Word::Verify | Word::VerifyReadOnly => ToolCommand::Verify {
             folder,
+            recording: None,
             read_only: matches!(word, Word::VerifyReadOnly),
+            wait: None,
         },
-        Word::Compact => ToolCommand::Compact { folder },
+        Word::Compact => ToolCommand::Compact { folder, wait: None },
         Word::Frames => ToolCommand::Frames { file },
     }
 }
@@ -160,6 +163,7 @@ fn cut_catalogue(rt: HostRuntime, folder: &str, length: u64) -> Result<(), Fail>
     Ok(())
 }
 
+/// What one command made and another recorded in a folder, later commands list, verify and print as frames.
 #[test]
 fn an_archive_outlives_its_process(rt: HostRuntime) -> Result<(), Fail> {
     let path = unused(rt, "whole")?;
@@ -183,7 +187,8 @@ fn an_archive_outlives_its_process(rt: HostRuntime) -> Result<(), Fail> {
     Ok(())
 }
 
-/// Also while another disk has the folder open, which a command that opens it may not.
+/// `list` and `verify` with `--read-only` leave a recording active. They work while another opening has the folder, and `list`
+/// does not.
 #[test]
 fn looking_stops_no_recording(rt: HostRuntime) -> Result<(), Fail> {
     let path = unused(rt, "looked-at")?;
@@ -204,7 +209,7 @@ fn looking_stops_no_recording(rt: HostRuntime) -> Result<(), Fail> {
     Ok(())
 }
 
-/// A history that is full has room again; a folder that is not there or in use says so, and one without an archive.
+/// After `compact` a full history has room. It is refused if the folder is missing, in use, or without a bank A.
 #[test]
 fn a_full_history_is_compacted(rt: HostRuntime) -> Result<(), Fail> {
     let path = unused(rt, "full")?;
@@ -230,8 +235,8 @@ fn a_full_history_is_compacted(rt: HostRuntime) -> Result<(), Fail> {
     Ok(())
 }
 
-/// Of no such recording, or into the archive's folder. One frame is a capture file of 132 bytes: its header has 24, the
-/// record's 16, those of IPv4 and UDP 28, the frame 64.
+/// An export of a missing recording, or into the archive's folder, leaves no file. That of one frame has 132 bytes: headers of
+/// 24, 16 and 28, and the frame's 64.
 #[test]
 fn a_refused_export_leaves_no_file(rt: HostRuntime) -> Result<(), Fail> {
     let path = unused(rt, "exported")?;
@@ -267,6 +272,8 @@ fn a_refused_export_leaves_no_file(rt: HostRuntime) -> Result<(), Fail> {
     Ok(())
 }
 
+/// `verify` and `frames` report a damaged frame by a line and status 3. `list` has status 3 over a damaged catalogue, and 1 over
+/// one that is cut too short.
 #[test]
 fn damage_in_a_folder_is_told(rt: HostRuntime) -> Result<(), Fail> {
     let path = unused(rt, "damaged")?;
@@ -290,6 +297,7 @@ fn damage_in_a_folder_is_told(rt: HostRuntime) -> Result<(), Fail> {
     Ok(())
 }
 
+/// Commands over a missing folder or one in use end with status 3, and over a folder without an archive with status 1.
 #[test]
 fn folders_that_hold_no_archive(rt: HostRuntime) -> Result<(), Fail> {
     let path = unused(rt, "empty")?;
@@ -323,6 +331,7 @@ impl Write for Holding {
     }
 }
 
+/// A command whose output is taken and can't be flushed ends with status 3.
 #[test]
 fn what_is_not_handed_on_is_told(rt: HostRuntime) -> Result<(), Fail> {
     let path = unused(rt, "held")?;
@@ -336,7 +345,7 @@ fn what_is_not_handed_on_is_told(rt: HostRuntime) -> Result<(), Fail> {
     Ok(())
 }
 
-/// The error of a write, and that of handing on. What was taken is no error.
+/// An outlet keeps the error of a write and that of a flush, and has none while all is taken.
 #[test]
 fn an_outlet_keeps_its_error(rt: HostRuntime) {
     let mut full = Outlet::new(Full);

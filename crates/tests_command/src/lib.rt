@@ -9,6 +9,8 @@ mod client;
 #[cfg(test)]
 mod folders;
 #[cfg(test)]
+mod operating;
+#[cfg(test)]
 mod serving;
 #[cfg(test)]
 mod words;

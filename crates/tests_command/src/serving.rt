@@ -22,14 +22,23 @@ pub(crate) fn usual<'a>(alloc: Global) -> ServeWords<'a> {
         is_aeron: false,
         window: None,
         clients: None,
+        consumers: None,
+        consumers_on: None,
         streams: Vec::new(alloc),
         segment_length: None,
         is_quiet: false,
         is_strict: false,
         metrics: None,
+        checkpoints: false,
+        no_checkpoints: false,
+        name: None,
+        logs_times: false,
+        no_create: false,
+        wait: None,
     }
 }
 
+/// `serve` takes its folder, ports, address, idle time and `--quiet`, and has their defaults.
 #[test]
 fn serve_has_its_words(rt: HostRuntime) -> Result<(), Fail> {
     for (line, receive, receive_on, idle, is_quiet) in [
@@ -61,8 +70,8 @@ fn serve_has_its_words(rt: HostRuntime) -> Result<(), Fail> {
     Ok(())
 }
 
-/// Each option at its limits. Its value may be no window that a server can have, and `--aeron` may be missing: `serve` refuses
-/// that, and not the command line.
+/// `serve` takes each option at its limits. A window that no server can have, or one without `--aeron`, is refused by `serve`,
+/// not by the command line.
 #[test]
 fn serve_has_its_options(rt: HostRuntime) -> Result<(), Fail> {
     for (options, settle_every, is_aeron, window, clients) in [
@@ -97,7 +106,7 @@ fn serve_has_its_options(rt: HostRuntime) -> Result<(), Fail> {
     Ok(())
 }
 
-/// Whether the server ends once it can record nothing, and the file of its metrics, as it was given.
+/// `serve` takes `--strict`, and the file of `--metrics` as it is given.
 #[test]
 fn serve_has_its_reports(rt: HostRuntime) -> Result<(), Fail> {
     for (options, is_strict, metrics) in [
@@ -119,8 +128,62 @@ fn serve_has_its_reports(rt: HostRuntime) -> Result<(), Fail> {
     Ok(())
 }
 
-/// Streams in the order of the words, and the length of their segments. `serve` refuses those that do not go together, and not
-/// the command line.
+/// `serve` takes `--checkpoints` and `--no-checkpoints`. Both together are refused by `serve`, not by the command line.
+#[test]
+fn serve_has_its_checkpoints(rt: HostRuntime) -> Result<(), Fail> {
+    for (options, is_aeron, checkpoints, no_checkpoints) in [
+        ("--checkpoints", false, true, false),
+        ("--aeron --no-checkpoints", true, false, true),
+        ("--no-checkpoints --checkpoints", false, true, true),
+    ] {
+        let line = format!(in rt.alloc();
+            "archive_tool serve a --control 1 --receive 2 {options}"
+        )?;
+        let mut words = usual(rt.alloc());
+        words.is_aeron = is_aeron;
+        words.checkpoints = checkpoints;
+        words.no_checkpoints = no_checkpoints;
+        assert!(rt;
+            asks_for(rt.alloc(), line.as_str(), ToolCommand::Serve(words))?,
+            "{line}"
+        );
+    }
+    Ok(())
+}
+
+/// `serve` takes `--name`, `--log-times`, `--no-create` and `--wait`.
+#[test]
+fn serve_has_its_operation(rt: HostRuntime) -> Result<(), Fail> {
+    for (options, name, logs_times, no_create, wait) in [
+        ("--name a-1", Some("a-1"), false, false, None),
+        ("--log-times --name=", Some(""), true, false, None),
+        ("--no-create --wait 30", None, false, true, Some(30)),
+        (
+            "--wait=1 --no-create --log-times",
+            None,
+            true,
+            true,
+            Some(1),
+        ),
+    ] {
+        let line = format!(in rt.alloc();
+            "archive_tool serve a --control 1 --receive 2 {options}"
+        )?;
+        let mut words = usual(rt.alloc());
+        words.name = name;
+        words.logs_times = logs_times;
+        words.no_create = no_create;
+        words.wait = wait;
+        assert!(rt;
+            asks_for(rt.alloc(), line.as_str(), ToolCommand::Serve(words))?,
+            "{line}"
+        );
+    }
+    Ok(())
+}
+
+/// `serve` takes streams in the order of its words, and the length of their segments. Those without `--aeron` are refused by
+/// `serve`, not by the command line.
 #[test]
 fn serve_has_its_streams(rt: HostRuntime) -> Result<(), Fail> {
     let rows: [(&str, bool, &[i32], Option<u32>); 5] = [
@@ -166,7 +229,33 @@ fn serve_has_its_streams(rt: HostRuntime) -> Result<(), Fail> {
     Ok(())
 }
 
-/// A value that is out of an option's range, or not a number.
+/// `serve` takes a port of consumers and its address. An address without a port is refused by `serve`, not by the command line.
+#[test]
+fn serve_has_its_consumers(rt: HostRuntime) -> Result<(), Fail> {
+    for (options, consumers, consumers_on) in [
+        ("--consumers 1", Some(1), None),
+        (
+            "--consumers=65535 --consumers-on 10.0.0.1",
+            Some(65_535),
+            Some("10.0.0.1"),
+        ),
+        ("--consumers-on=x", None, Some("x")),
+    ] {
+        let line = format!(in rt.alloc();
+            "archive_tool serve a --control 1 --receive 2 {options}"
+        )?;
+        let mut words = usual(rt.alloc());
+        words.consumers = consumers;
+        words.consumers_on = consumers_on;
+        assert!(rt;
+            asks_for(rt.alloc(), line.as_str(), ToolCommand::Serve(words))?,
+            "{line}"
+        );
+    }
+    Ok(())
+}
+
+/// A value of an option of `serve` that is out of its range, or not a number, is a usage error.
 #[test]
 fn options_of_a_server_out_of_range(rt: HostRuntime) -> Result<(), Fail> {
     for (options, value) in [
@@ -195,6 +284,8 @@ fn options_of_a_server_out_of_range(rt: HostRuntime) -> Result<(), Fail> {
         ("--aeron --window x", "'x' for '--window <bytes>'"),
         ("--clients 0", "'0' for '--clients <count>'"),
         ("--clients 65", "'65' for '--clients <count>'"),
+        ("--consumers 0", "'0' for '--consumers <port>'"),
+        ("--consumers 65536", "'65536' for '--consumers <port>'"),
         ("--record x", "'x' for '--record <stream id>'"),
         (
             "--record 1 --record 2147483648",
@@ -221,6 +312,7 @@ fn options_of_a_server_out_of_range(rt: HostRuntime) -> Result<(), Fail> {
     Ok(())
 }
 
+/// `serve` without one of its ports is a usage error that names it.
 #[test]
 fn a_missing_port(rt: HostRuntime) -> Result<(), Fail> {
     let line = "archive_tool serve a --control 1";
@@ -230,7 +322,7 @@ fn a_missing_port(rt: HostRuntime) -> Result<(), Fail> {
 }
 
 /// Words of `serve` over a folder that is not there, on ports that the system chooses.
-fn unserved<'a>(
+pub(crate) fn unserved<'a>(
     alloc: Global,
     folder: &'a str,
     receive_on: &'a str,
@@ -247,15 +339,23 @@ fn unserved<'a>(
         is_aeron,
         window,
         clients: None,
+        consumers: None,
+        consumers_on: None,
         streams: Vec::new(alloc),
         segment_length: None,
         is_quiet: true,
         is_strict: false,
         metrics: None,
+        checkpoints: false,
+        no_checkpoints: false,
+        name: None,
+        logs_times: false,
+        no_create: false,
+        wait: None,
     }
 }
 
-/// Wrong words are a usage error, and the folder is not asked for. It is asked for if they are right.
+/// Wrong words of `serve` are a usage error, and its folder is not opened. It is opened if they are right.
 #[test]
 fn wrong_words_of_a_server(rt: HostRuntime) -> Result<(), Fail> {
     let (any, absent) = ("127.0.0.1", "the folder is not there");
@@ -287,6 +387,81 @@ fn wrong_words_of_a_server(rt: HostRuntime) -> Result<(), Fail> {
         (any, false, None, absent, 3),
     ] {
         let words = unserved(rt.alloc(), folder.as_str(), receive_on, is_aeron, window);
+        let ended = ended(&rt, rt, ToolCommand::Serve(words), NO_LINES, &mut out);
+        let streams = Streams::new(rt.alloc(), reason);
+        assert!(rt; concluded(&streams, ended) == status, "{reason} {status}");
+        assert!(rt; streams.awaited_came.get(), "{reason} {status}");
+    }
+    Ok(())
+}
+
+/// A name of a recorder has 1 to 64 letters, digits, `_`, `.` and `-`.
+#[test]
+fn names_of_a_server(rt: HostRuntime) -> Result<(), Fail> {
+    let (absent, wrong) = (
+        "the folder is not there",
+        "--name wants 1 to 64 of the characters A-Z, a-z, 0-9, _, . and -",
+    );
+    let longest = "AZaz09_.-0123456789012345678901234567890123456789012345678901234";
+    let folder = format!(in rt.alloc(); "{}/archive_tool-unnamed", env::temp_dir(&rt)?.display())?;
+    let longer = format!(in rt.alloc(); "{longest}5")?;
+    let mut out = Vec::new(rt.alloc());
+    for (name, reason, status) in [
+        (longest, absent, 3),
+        ("a", absent, 3),
+        (longer.as_str(), wrong, 2),
+        ("", wrong, 2),
+        ("a b", wrong, 2),
+        ("a\"", wrong, 2),
+        ("/", wrong, 2),
+        (":", wrong, 2),
+        ("@", wrong, 2),
+        ("[", wrong, 2),
+        ("`", wrong, 2),
+        ("{", wrong, 2),
+        ("\u{e9}", wrong, 2),
+    ] {
+        let mut words = unserved(rt.alloc(), folder.as_str(), "127.0.0.1", false, None);
+        words.name = Some(name);
+        let ended = ended(&rt, rt, ToolCommand::Serve(words), NO_LINES, &mut out);
+        let streams = Streams::new(rt.alloc(), reason);
+        assert!(rt; concluded(&streams, ended) == status, "{name} {status}");
+        assert!(rt; streams.awaited_came.get(), "{name} {status}");
+    }
+    Ok(())
+}
+
+/// An address of consumers without their port, and one that no machine has, are usage errors too.
+#[test]
+fn wrong_consumers_of_a_server(rt: HostRuntime) -> Result<(), Fail> {
+    let absent = "the folder is not there";
+    let multicast = "--consumers-on wants an address of this machine, not a multicast address";
+    let folder = format!(in rt.alloc();
+        "{}/archive_tool-unconsumed",
+        env::temp_dir(&rt)?.display()
+    )?;
+    let mut out = Vec::new(rt.alloc());
+    for (consumers, consumers_on, reason, status) in [
+        (
+            None,
+            Some("127.0.0.1"),
+            "--consumers-on needs --consumers",
+            2,
+        ),
+        (None, Some("x"), "--consumers-on needs --consumers", 2),
+        (
+            Some(0),
+            Some("10.0.0"),
+            "--consumers-on wants an IPv4 address",
+            2,
+        ),
+        (Some(0), Some("224.0.0.1"), multicast, 2),
+        (Some(0), Some("127.0.0.1"), absent, 3),
+        (Some(0), None, absent, 3),
+    ] {
+        let mut words = unserved(rt.alloc(), folder.as_str(), "127.0.0.1", false, None);
+        words.consumers = consumers;
+        words.consumers_on = consumers_on;
         let ended = ended(&rt, rt, ToolCommand::Serve(words), NO_LINES, &mut out);
         let streams = Streams::new(rt.alloc(), reason);
         assert!(rt; concluded(&streams, ended) == status, "{reason} {status}");
@@ -329,6 +504,38 @@ fn wrong_streams_of_a_server(rt: HostRuntime) -> Result<(), Fail> {
         let mut words = unserved(rt.alloc(), folder.as_str(), "127.0.0.1", is_aeron, None);
         words.streams = streams_of(rt.alloc(), count)?;
         words.segment_length = segment_length;
+        let ended = ended(&rt, rt, ToolCommand::Serve(words), NO_LINES, &mut out);
+        let streams = Streams::new(rt.alloc(), reason);
+        assert!(rt; concluded(&streams, ended) == status, "{reason} {status}");
+        assert!(rt; streams.awaited_came.get(), "{reason} {status}");
+    }
+    Ok(())
+}
+
+/// `--no-checkpoints` without `--aeron`, and with `--checkpoints`, is a usage error too.
+#[test]
+fn wrong_checkpoints_of_a_server(rt: HostRuntime) -> Result<(), Fail> {
+    let (absent, needs, both) = (
+        "the folder is not there",
+        "--no-checkpoints needs --aeron",
+        "--checkpoints and --no-checkpoints contradict each other",
+    );
+    let folder = format!(in rt.alloc();
+        "{}/archive_tool-unchecked",
+        env::temp_dir(&rt)?.display()
+    )?;
+    let mut out = Vec::new(rt.alloc());
+    for (is_aeron, checkpoints, no_checkpoints, reason, status) in [
+        (false, false, true, needs, 2),
+        (false, true, true, both, 2),
+        (true, true, true, both, 2),
+        (true, false, true, absent, 3),
+        (true, true, false, absent, 3),
+        (false, true, false, absent, 3),
+    ] {
+        let mut words = unserved(rt.alloc(), folder.as_str(), "127.0.0.1", is_aeron, None);
+        words.checkpoints = checkpoints;
+        words.no_checkpoints = no_checkpoints;
         let ended = ended(&rt, rt, ToolCommand::Serve(words), NO_LINES, &mut out);
         let streams = Streams::new(rt.alloc(), reason);
         assert!(rt; concluded(&streams, ended) == status, "{reason} {status}");

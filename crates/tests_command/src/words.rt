@@ -124,6 +124,7 @@ pub(crate) fn check_refused(
     }
 }
 
+/// `--help`, of the program and of each command, and `--version` are printed on standard output, with status 0.
 #[test]
 fn help(rt: HostRuntime) -> Result<(), Fail> {
     for (line, kind, text) in [
@@ -185,7 +186,7 @@ fn help(rt: HostRuntime) -> Result<(), Fail> {
         (
             "archive_tool --version",
             ErrorKind::DisplayVersion,
-            "archive_tool 0.1.0 (catalogue 2, rattle-kit-",
+            "archive_tool 0.2.0 (catalogue 2, rattle-kit-",
         ),
     ] {
         check_refused(&rt, rt.alloc(), line, kind, text, 0)?;
@@ -193,6 +194,7 @@ fn help(rt: HostRuntime) -> Result<(), Fail> {
     Ok(())
 }
 
+/// Words without a command, of an unknown one, too many of them, or not UTF-8 are a usage error on standard error, with status 2.
 #[test]
 fn words_that_ask_for_no_command(rt: HostRuntime) -> Result<(), Fail> {
     for (line, kind, text) in [
@@ -229,6 +231,7 @@ fn words_that_ask_for_no_command(rt: HostRuntime) -> Result<(), Fail> {
     check_told(&rt, rt.alloc(), &error, ErrorKind::InvalidValue, text, 2)
 }
 
+/// A command without its folder or file is a usage error that names it.
 #[test]
 fn a_missing_folder_or_file(rt: HostRuntime) -> Result<(), Fail> {
     let missing = "error: the following required arguments were not provided:\n  ";
@@ -249,6 +252,7 @@ fn a_missing_folder_or_file(rt: HostRuntime) -> Result<(), Fail> {
     Ok(())
 }
 
+/// A `--history` that is not a number of 32 bits, has no value or comes twice is a usage error.
 #[test]
 fn a_history_that_is_no_number(rt: HostRuntime) -> Result<(), Fail> {
     for (line, kind, text) in [
@@ -283,27 +287,64 @@ fn a_history_that_is_no_number(rt: HostRuntime) -> Result<(), Fail> {
     Ok(())
 }
 
+/// Each command takes its folder or file, its ids and its flags. Words after `--` are folders, whatever they begin with.
 #[test]
 fn each_command_has_its_words(rt: HostRuntime) -> Result<(), Fail> {
     for (line, command) in [
-        ("archive_tool run", ToolCommand::Run { folder: None }),
-        ("archive_tool run a", ToolCommand::Run { folder: Some("a") }),
+        (
+            "archive_tool run",
+            ToolCommand::Run {
+                folder: None,
+                checkpoints: false,
+                wait: None,
+            },
+        ),
+        (
+            "archive_tool run a",
+            ToolCommand::Run {
+                folder: Some("a"),
+                checkpoints: false,
+                wait: None,
+            },
+        ),
+        (
+            "archive_tool run --checkpoints",
+            ToolCommand::Run {
+                folder: None,
+                checkpoints: true,
+                wait: None,
+            },
+        ),
+        (
+            "archive_tool run a --checkpoints",
+            ToolCommand::Run {
+                folder: Some("a"),
+                checkpoints: true,
+                wait: None,
+            },
+        ),
         (
             "archive_tool compact a",
-            ToolCommand::Compact { folder: "a" },
+            ToolCommand::Compact {
+                folder: "a",
+                wait: None,
+            },
         ),
         (
             "archive_tool list a",
             ToolCommand::List {
                 folder: "a",
                 read_only: false,
+                wait: None,
             },
         ),
         (
             "archive_tool verify a/b",
             ToolCommand::Verify {
                 folder: "a/b",
+                recording: None,
                 read_only: false,
+                wait: None,
             },
         ),
         (
@@ -311,19 +352,23 @@ fn each_command_has_its_words(rt: HostRuntime) -> Result<(), Fail> {
             ToolCommand::List {
                 folder: "a",
                 read_only: true,
+                wait: None,
             },
         ),
         (
             "archive_tool verify --read-only a",
             ToolCommand::Verify {
                 folder: "a",
+                recording: None,
                 read_only: true,
+                wait: None,
             },
         ),
         (
             "archive_tool describe a",
             ToolCommand::Describe {
                 folder: "a",
+                recording: None,
                 json: false,
             },
         ),
@@ -331,6 +376,7 @@ fn each_command_has_its_words(rt: HostRuntime) -> Result<(), Fail> {
             "archive_tool describe a --json",
             ToolCommand::Describe {
                 folder: "a",
+                recording: None,
                 json: true,
             },
         ),
@@ -363,6 +409,7 @@ fn each_command_has_its_words(rt: HostRuntime) -> Result<(), Fail> {
             ToolCommand::List {
                 folder: "-a",
                 read_only: false,
+                wait: None,
             },
         ),
         (
@@ -370,6 +417,7 @@ fn each_command_has_its_words(rt: HostRuntime) -> Result<(), Fail> {
             ToolCommand::List {
                 folder: "list",
                 read_only: false,
+                wait: None,
             },
         ),
     ] {
@@ -378,6 +426,127 @@ fn each_command_has_its_words(rt: HostRuntime) -> Result<(), Fail> {
     Ok(())
 }
 
+/// `verify` and `describe` take the id of one recording.
+#[test]
+fn commands_of_one_recording(rt: HostRuntime) -> Result<(), Fail> {
+    for (line, command) in [
+        (
+            "archive_tool verify a 0",
+            ToolCommand::Verify {
+                folder: "a",
+                recording: Some(0),
+                read_only: false,
+                wait: None,
+            },
+        ),
+        (
+            "archive_tool verify a 9223372036854775807 --read-only",
+            ToolCommand::Verify {
+                folder: "a",
+                recording: Some(i64::MAX),
+                read_only: true,
+                wait: None,
+            },
+        ),
+        (
+            "archive_tool describe --json a 7",
+            ToolCommand::Describe {
+                folder: "a",
+                recording: Some(7),
+                json: true,
+            },
+        ),
+    ] {
+        assert!(rt; asks_for(rt.alloc(), line, command)?, "{line}");
+    }
+    Ok(())
+}
+
+/// Commands that open a folder take for how many seconds they wait for it.
+#[test]
+fn commands_that_wait(rt: HostRuntime) -> Result<(), Fail> {
+    for (line, command) in [
+        (
+            "archive_tool compact --wait 30 a",
+            ToolCommand::Compact {
+                folder: "a",
+                wait: Some(30),
+            },
+        ),
+        (
+            "archive_tool list a --wait 1",
+            ToolCommand::List {
+                folder: "a",
+                read_only: false,
+                wait: Some(1),
+            },
+        ),
+        (
+            "archive_tool verify a --wait=86400",
+            ToolCommand::Verify {
+                folder: "a",
+                recording: None,
+                read_only: false,
+                wait: Some(86_400),
+            },
+        ),
+        (
+            "archive_tool run a --wait 2",
+            ToolCommand::Run {
+                folder: Some("a"),
+                checkpoints: false,
+                wait: Some(2),
+            },
+        ),
+    ] {
+        assert!(rt; asks_for(rt.alloc(), line, command)?, "{line}");
+    }
+    Ok(())
+}
+
+/// An id or a wait that is out of its range, or given to a command that takes none, is a usage error.
+#[test]
+fn a_wrong_recording_or_wait(rt: HostRuntime) -> Result<(), Fail> {
+    let value = ErrorKind::ValueValidation;
+    for (line, kind, text) in [
+        (
+            "archive_tool verify a x",
+            value,
+            "error: invalid value 'x' for '[recording]': ",
+        ),
+        (
+            "archive_tool describe a 9223372036854775808",
+            value,
+            "error: invalid value '9223372036854775808' for '[recording]': ",
+        ),
+        (
+            "archive_tool list a --wait 0",
+            value,
+            "error: invalid value '0' for '--wait <seconds>': ",
+        ),
+        (
+            "archive_tool compact a --wait 86401",
+            value,
+            "error: invalid value '86401' for '--wait <seconds>': ",
+        ),
+        (
+            "archive_tool list a 0",
+            ErrorKind::UnknownArgument,
+            "error: unexpected argument '0' found\n",
+        ),
+        (
+            "archive_tool describe a --wait 1",
+            ErrorKind::UnknownArgument,
+            "error: unexpected argument '--wait' found\n",
+        ),
+    ] {
+        check_refused(&rt, rt.alloc(), line, kind, text, 2)?;
+    }
+    Ok(())
+}
+
+/// `create` takes the limit of its history, 1,048,576 without a word. Numbers that no archive has are refused by `create`, not by
+/// the command line.
 #[test]
 fn a_new_archive_has_its_history(rt: HostRuntime) -> Result<(), Fail> {
     for (line, folder, history) in [
@@ -401,6 +570,7 @@ fn a_new_archive_has_its_history(rt: HostRuntime) -> Result<(), Fail> {
     Ok(())
 }
 
+/// An end by a failed stream or want of memory prints its refusal and has its status. A command that is done prints nothing.
 #[test]
 fn a_fault_is_told_by_its_line(rt: HostRuntime) {
     for (ending, line, status) in [

@@ -113,7 +113,7 @@ fn lines_with_bytes(rt: HostRuntime) -> Result<(), Fail> {
 }
 
 /// A line, and what it asks the archive for.
-const ASKED: [(&'static str, &'static str); 15] = [
+const ASKED: [(&'static str, &'static str); 16] = [
     ("list 0 -1", "Event(Ask(List { from: 0, count: -1 }))"),
     (
         "extend 1 1001 7 42 65536 1408 128",
@@ -142,6 +142,7 @@ const ASKED: [(&'static str, &'static str); 15] = [
     ),
     ("close 4", "Event(ReplayClose { replay: 4 })"),
     ("sweep", "Event(Sweep)"),
+    ("checkpoint", "Event(Checkpoint)"),
     ("verify 1", "Event(Verify { recording: 1 })"),
     ("reopen", "Reopen"),
     ("compact", "Compact"),
@@ -228,8 +229,8 @@ poll-to 0 10
 poll-to 0 10 1 2
 poll-to 0 10 +1
 sweep 1
-checkpoint
 checkpoint 1
+checkpoint 
 compact 1";
 
 fn is_malformed(alloc: Global, line: &[u8]) -> bool {

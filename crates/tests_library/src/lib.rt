@@ -17,6 +17,8 @@ mod checkpoints;
 #[cfg(test)]
 mod compactions;
 #[cfg(test)]
+mod copies;
+#[cfg(test)]
 mod disks;
 #[cfg(test)]
 mod folders;

@@ -1,32 +1,42 @@
 //! Measures as the text that a collector reads: docs/SERVING.md, "Metrics".
 
 use metrics_text::{
-    ArchiveMeasures, ClientMeasures, DatagramMeasures, ImageMeasures, Measures, RecorderMeasures,
-    RecordingMeasures, print_metrics,
+    ArchiveMeasures, ClientMeasures, DatagramMeasures, ImageMeasures, Measures, RecorderAbout,
+    RecorderMeasures, RecordingMeasures, ResumeMeasures, print_metrics,
 };
 use std::alloc::{AllocError, Global};
 use std::test::*;
 
 /// The text of `measures` begins so.
-const FIRST_LINES: &str = "# HELP aeron_recorder_archive_open Whether an archive is open.
+const FIRST_LINES: &str =
+    "# HELP aeron_recorder_build_info The program, and the catalogues that it writes.
+# TYPE aeron_recorder_build_info gauge
+aeron_recorder_build_info{recorder=\"a-1\",version=\"0.1.0\",catalogue=\"2\"} 1
+# HELP aeron_recorder_start_time_seconds When the server began, since 1970.
+# TYPE aeron_recorder_start_time_seconds gauge
+aeron_recorder_start_time_seconds{recorder=\"a-1\"} 1764405696.123000
+# HELP aeron_recorder_archive_open Whether an archive is open.
 # TYPE aeron_recorder_archive_open gauge
-aeron_recorder_archive_open 1
+aeron_recorder_archive_open{recorder=\"a-1\"} 1
 # HELP aeron_recorder_archive_broken Whether a device fault broke the archive.
 # TYPE aeron_recorder_archive_broken gauge
-aeron_recorder_archive_broken 0
+aeron_recorder_archive_broken{recorder=\"a-1\"} 0
 ";
 
 /// Lines that it has.
-const LINES: [&str; 9] = [
-    "aeron_recorder_history_limit_entries 1048576\n",
-    "# TYPE aeron_recorder_recorded_bytes_total counter\naeron_recorder_recorded_bytes_total 18446744073709551615\n",
-    "# TYPE aeron_recorder_settle_seconds summary\naeron_recorder_settle_seconds_sum 61.000203\naeron_recorder_settle_seconds_count 9\n",
-    "aeron_recorder_settle_longest_seconds 0.000001\n",
-    "aeron_recorder_datagrams_repeated_total 4\n",
-    "aeron_recorder_recorded_position_bytes{recording=\"3\",stream=\"1001\",session=\"-7\"} 65472\n",
-    "aeron_recorder_rebuilt_position_bytes{image=\"0\",stream=\"1001\",session=\"-7\"} 65536\naeron_recorder_rebuilt_position_bytes{image=\"12\",stream=\"-5\",session=\"8\"} 0\n",
-    "aeron_recorder_consumed_position_bytes{image=\"0\",stream=\"1001\",session=\"-7\"} 65504\n",
-    "aeron_recorder_gap_seconds{image=\"12\",stream=\"-5\",session=\"8\"} 0.250000\n",
+const LINES: [&str; 12] = [
+    "aeron_recorder_history_limit_entries{recorder=\"a-1\"} 1048576\n",
+    "# TYPE aeron_recorder_checkpoints_total counter\naeron_recorder_checkpoints_total{recorder=\"a-1\"} 7\n# HELP aeron_recorder_checkpoints_refused_total Checkpoints that were refused.\n# TYPE aeron_recorder_checkpoints_refused_total counter\naeron_recorder_checkpoints_refused_total{recorder=\"a-1\"} 1\n",
+    "# TYPE aeron_recorder_recorded_bytes_total counter\naeron_recorder_recorded_bytes_total{recorder=\"a-1\"} 18446744073709551615\n",
+    "# TYPE aeron_recorder_settle_seconds summary\naeron_recorder_settle_seconds_sum{recorder=\"a-1\"} 61.000203\naeron_recorder_settle_seconds_count{recorder=\"a-1\"} 9\n",
+    "aeron_recorder_settle_longest_seconds{recorder=\"a-1\"} 0.000001\n",
+    "aeron_recorder_datagrams_repeated_total{recorder=\"a-1\"} 4\n",
+    "# TYPE aeron_recorder_hole_bytes_total counter\naeron_recorder_hole_bytes_total{recorder=\"a-1\"} 9\n",
+    "aeron_recorder_resuming{recorder=\"a-1\"} 12\n",
+    "aeron_recorder_recorded_position_bytes{recorder=\"a-1\",recording=\"3\",stream=\"1001\",session=\"-7\"} 65472\n",
+    "aeron_recorder_rebuilt_position_bytes{recorder=\"a-1\",image=\"0\",stream=\"1001\",session=\"-7\"} 65536\naeron_recorder_rebuilt_position_bytes{recorder=\"a-1\",image=\"12\",stream=\"-5\",session=\"8\"} 0\n",
+    "aeron_recorder_consumed_position_bytes{recorder=\"a-1\",image=\"0\",stream=\"1001\",session=\"-7\"} 65504\n",
+    "aeron_recorder_gap_seconds{recorder=\"a-1\",image=\"12\",stream=\"-5\",session=\"8\"} 0.250000\n",
 ];
 
 fn measures(alloc: Global) -> Result<Measures, AllocError> {
@@ -37,6 +47,8 @@ fn measures(alloc: Global) -> Result<Measures, AllocError> {
             is_full: false,
             entries: 12,
             limit: 1_048_576,
+            checkpoints: 7,
+            refused_checkpoints: 1,
         },
         recorder: RecorderMeasures {
             bytes: u64::MAX,
@@ -53,6 +65,13 @@ fn measures(alloc: Global) -> Result<Measures, AllocError> {
             naks: 5,
             status_messages: 6,
             images: 7,
+        },
+        resumes: ResumeMeasures {
+            holes: 8,
+            hole_bytes: 9,
+            resumed: 10,
+            resumed_bytes: 11,
+            resuming: 12,
         },
         clients: ClientMeasures {
             connections: 1,
@@ -94,7 +113,13 @@ fn image(
 /// A server's measures are printed in the text format, with their types and labels.
 #[test]
 fn a_server_is_measured(rt: HostRuntime) -> Result<(), Fail> {
-    let text = print_metrics(rt.alloc(), &measures(rt.alloc())?)?;
+    let about = RecorderAbout {
+        name: "a-1",
+        version: "0.1.0",
+        catalogue: "2",
+        started_micros: 1_764_405_696_123_000,
+    };
+    let text = print_metrics(rt.alloc(), &about, &measures(rt.alloc())?)?;
     assert!(rt; text.as_str().starts_with(FIRST_LINES));
     for line in LINES {
         assert!(rt; text.as_str().contains(line), "{line}");

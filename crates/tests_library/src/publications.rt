@@ -81,6 +81,7 @@ const HEARTBEAT_IN_NEXT_TERM: &[u8] =
 const END_IN_NEXT_TERM: &[u8] =
     b"\0\0\0\0\0\xe0\x01\0\x40\0\0\0\x07\0\0\0\xe9\x03\0\0\x2b\0\0\0\0\0\0\0\0\0\0\0";
 
+/// Setup frames encode to their bytes and decode to their fields.
 #[test]
 fn setup_frames_by_their_bytes(rt: HostRuntime) -> Result<(), Fail> {
     assert!(rt; OTHER_FIELDS.encode() == OTHER_SETUP);
@@ -278,6 +279,7 @@ const HELLOS: [Row; 25] = [
     (650, Event::Wait, Due::Done, b""),
 ];
 
+/// Three messages go out as one datagram, after setup frames, and are repeated for a NAK, byte for byte.
 #[test]
 fn three_messages_are_one_datagram(rt: HostRuntime) -> Result<(), Fail> {
     let mut sender = sender_at(rt.alloc(), 0);
@@ -322,6 +324,7 @@ const PAD_AND_HELLO: [Row; 17] = [
     (401, Event::Wait, Due::Done, b""),
 ];
 
+/// A pad ends its datagram, and the first message of the next term goes out in another one.
 #[test]
 fn a_pad_ends_its_term_and_its_datagram(rt: HostRuntime) -> Result<(), Fail> {
     let mut sender = sender_at(rt.alloc(), 65_472);
@@ -347,6 +350,7 @@ const HELLO_PAD_HELLO: [Row; 6] = [
 const SETUP_AT_65408: &[u8] =
     b"\x28\0\0\0\0\0\x05\0\x80\xff\0\0\x07\0\0\0\xe9\x03\0\0\x2a\0\0\0\x2a\0\0\0\0\0\x01\0\x80\x05\0\0\0\0\0\0";
 
+/// A message and the pad after it are one datagram, in which the pad is the last frame.
 #[test]
 fn a_pad_is_the_last_frame_of_a_datagram(rt: HostRuntime) -> Result<(), Fail> {
     let mut sender = sender_at(rt.alloc(), 65_408);
@@ -400,6 +404,7 @@ const LAST: [Row; 8] = [
     (103, Event::Hear(-2_147_483_606, 0, 64), Due::Nothing, b""),
 ];
 
+/// A publication goes up to the end of the last term, past which no setup frame or heartbeat goes out.
 #[test]
 fn a_publication_of_the_last_term(rt: HostRuntime) -> Result<(), Fail> {
     let mut sender = sender_at(rt.alloc(), LAST_POSITION);

@@ -81,6 +81,7 @@ fn length_of_first(
     first_sizes(&mut sender)
 }
 
+/// Messages share a datagram as long as it has at most the MTU.
 #[test]
 fn datagrams_are_as_long_as_the_mtu(rt: HostRuntime) -> Result<(), Fail> {
     for (first, second, bytes) in [
@@ -131,6 +132,7 @@ fn limit(alloc: Global, term_length: i32, window: i32) -> u64 {
     sender.flow().limit
 }
 
+/// The sender limit takes of a receiver's window at most half a term and at most 1,048,576 bytes.
 #[test]
 fn windows_are_cut(rt: HostRuntime) {
     for (term_length, window, admitted) in [
@@ -203,6 +205,7 @@ const EDGES: [Row; 16] = [
 const HEARTBEAT_AT_128: &[u8] =
     b"\0\0\0\0\0\xc0\x01\0\x80\0\0\0\x07\0\0\0\xe9\x03\0\0\x2a\0\0\0\0\0\0\0\0\0\0\0";
 
+/// A datagram goes out if it ends at the sender limit, and waits if it ends past it; the limit never falls.
 #[test]
 fn a_datagram_goes_at_the_limit_and_not_past_it(rt: HostRuntime) -> Result<(), Fail> {
     let mut sender = sender_in(rt.alloc(), 65_536, 64, 0);
@@ -224,6 +227,7 @@ const PAUSES: [Row; 9] = [
     (5_108, Event::End, Due::Nothing, b""),
 ];
 
+/// Setup frames and heartbeats go out at most each 100 milliseconds, and a receiver that is silent for 5 seconds is gone.
 #[test]
 fn setup_frames_and_heartbeats_wait(rt: HostRuntime) -> Result<(), Fail> {
     let mut sender = sender_in(rt.alloc(), 65_536, 64, 0);
@@ -243,6 +247,7 @@ fn due_of_pad(alloc: Global, term_length: i32, position: u64, length: i32) -> Re
     Ok(sender.due(0))
 }
 
+/// A pad of up to half a term goes out past the window once all is consumed, and a longer one is refused.
 #[test]
 fn a_pad_of_half_a_term_goes_and_a_longer_one_never(rt: HostRuntime) -> Result<(), Fail> {
     for (term_length, position, length, due) in [
@@ -298,6 +303,7 @@ const PAD_THAT_WAITS: [Row; 7] = [
     (3, Event::Hear(43, 0, 0), Due::Nothing, b""),
 ];
 
+/// A pad that ends past the sender limit waits until all before it is consumed.
 #[test]
 fn a_pad_past_the_limit_waits_until_all_is_consumed(rt: HostRuntime) -> Result<(), Fail> {
     let mut sender = sender_at(rt.alloc(), 32_704);
@@ -375,6 +381,7 @@ fn check_naks(rt: &impl Abort, sender: &mut Sender) {
     }
 }
 
+/// A NAK repeats exactly the datagrams that were sent and meet its range.
 #[test]
 fn naks_that_meet_nothing_all_and_a_part(rt: HostRuntime) -> Result<(), Fail> {
     let mut sender = three_sent(rt.alloc())?;

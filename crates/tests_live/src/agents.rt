@@ -180,11 +180,14 @@ pub(crate) struct Told {
     pub calls: Option<(u64, bool)>,
 }
 
+/// Two receivers with their recorders and two replayers run at once, each in its own thread. All blocks are recorded, and
+/// replayed as far as each sink wants.
 #[test]
 fn two_recorders_and_two_replayers(rt: HostRuntime) -> Result<(), Fail> {
     played(&rt, rt.alloc(), true, Scenario::Agents)
 }
 
+/// A gate ends each of six agents at a turn of its own: each is asked by its number, before each turn.
 #[test]
 fn a_gate_ends_each_agent_at_its_turn(rt: HostRuntime) -> Result<(), Fail> {
     played(&rt, rt.alloc(), true, Scenario::Gated)

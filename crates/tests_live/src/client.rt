@@ -82,6 +82,21 @@ impl Client {
         }
     }
 
+    /// Whether nothing comes for 300 milliseconds.
+    pub(crate) fn hears_nothing(&mut self, alloc: Global) -> bool {
+        let mut text = Vec::new(alloc);
+        let is_timed = self.listens_for(Duration::from_millis(300));
+        let is_silent = is_timed && self.lines.read_until(b'\n', &mut text).is_err();
+        self.listens_for(Duration::from_secs(PATIENCE)) && is_silent && text.is_empty()
+    }
+
+    fn listens_for(&self, patience: Duration) -> bool {
+        self.lines
+            .get_ref()
+            .set_read_timeout(Some(patience))
+            .is_ok()
+    }
+
     /// Sends a line, and whether this one is answered.
     pub(crate) fn asks(&mut self, alloc: Global, line: &str, answer: &str) -> bool {
         self.say(line) && self.hears(alloc, answer)
@@ -113,6 +128,16 @@ impl Client {
     pub(crate) fn casts_ten(&self) -> bool {
         for index in 0..10 {
             if !self.casts(hello(index).as_slice()) {
+                return false;
+            }
+        }
+        true
+    }
+
+    /// Sends the setup frames of 64 publications, of the session ids 100 to 163.
+    pub(crate) fn casts_setups(&self) -> bool {
+        for session_id in 100..164 {
+            if !self.casts(setup_of(session_id).as_slice()) {
                 return false;
             }
         }
@@ -154,6 +179,15 @@ impl Client {
         let mut buffer = [0u8; 128];
         match self.socket.recv_from(&mut buffer) {
             Ok((count, _)) => &buffer[..count] == datagram,
+            Err(_) => false,
+        }
+    }
+
+    /// Whether the next datagram that comes is one of these.
+    pub(crate) fn receives_either(&self, one: &[u8], other: &[u8]) -> bool {
+        let mut buffer = [0u8; 128];
+        match self.socket.recv_from(&mut buffer) {
+            Ok((count, _)) => &buffer[..count] == one || &buffer[..count] == other,
             Err(_) => false,
         }
     }

@@ -5,9 +5,10 @@
 //! - `asks` says a line once, `awaits` until it is answered so, `asks-alone` in a connection of its own beside this one;
 //!   `sends` sends bytes of a line;
 //! - `casts` sends a datagram, `casts-elsewhere` by another socket, which gets no answer, `casts-ten` the first ten messages of
-//!   a stream;
-//! - `receives` waits for one, `receives-among` for one among others, `silence` until none has come for a second;
+//!   a stream, `casts-setups` the setup frames of 64 publications;
+//! - `receives` waits for one, `receives-either` for one of two, `receives-among` for one among others, `silence` until none has come for a second;
 //! - `follows` waits for one line more;
+//! - `beats` sends a datagram each 200 milliseconds for 3 seconds;
 //! - `pauses` waits for 300 milliseconds, `rests` for 3 seconds, `loses` until an image was lost, `ends` until the server has
 //!   ended the connection.
 
@@ -76,9 +77,12 @@ fn is_met<R: Clock + Net<Listener = TcpListener, Stream = TcpStream>>(
         "sends" => client.send(said.as_bytes()),
         "casts" => client.casts(datagram(said)),
         "casts-elsewhere" => client.casts_elsewhere(rt, datagram(said)),
+        "beats" => beats(rt, client, datagram(said)),
         "casts-ten" => client.casts_ten(),
+        "casts-setups" => client.casts_setups(),
         "records-200" => client.records_200(rt, alloc),
         "receives" => client.receives(datagram(said)),
+        "receives-either" => receives_either(client, said),
         "receives-among" => client.receives_among(datagram(said)),
         "silence" => client.falls_silent(),
         "follows" => client.hears(alloc, rest),
@@ -100,6 +104,23 @@ fn parted<'a>(text: &'a str, mark: &str) -> (&'a str, &'a str) {
 
 fn sleeps<R: Clock>(rt: &R, milliseconds: u64) -> bool {
     thread::sleep(rt, Duration::from_millis(milliseconds));
+    true
+}
+
+/// Whether the next datagram that comes is one of two, by their names.
+fn receives_either(client: &Client, names: &str) -> bool {
+    let (one, other) = parted(names, " ");
+    client.receives_either(datagram(one), datagram(other))
+}
+
+/// Sends a datagram each 200 milliseconds for 3 seconds.
+fn beats<R: Clock>(rt: &R, client: &Client, datagram: &[u8]) -> bool {
+    for _ in 0..15 {
+        if !client.casts(datagram) {
+            return false;
+        }
+        sleeps(rt, 200);
+    }
     true
 }
 
@@ -146,6 +167,7 @@ pub(crate) fn recorded(alloc: Global, disk: MemoryDisk) -> Result<Vec<u8>, Fail>
     }
 }
 
+/// A lost datagram is asked for by a NAK. Once it came, all frames are recorded, and on the disk after `quit`.
 #[test]
 fn frames_are_recorded_behind_a_loss(rt: HostRuntime) -> Result<(), Fail> {
     let disk = MemoryDisk::new(rt.alloc());
@@ -174,6 +196,8 @@ awaits positions 1: positions 0 192 -1
 asks positions 0: positions 64 64 -1
 ";
 
+/// Frames that came before `start` are recorded by the session that begins where their image joined. Bad datagrams change
+/// nothing.
 #[test]
 fn an_image_waits_for_its_session(rt: HostRuntime) -> Result<(), Fail> {
     let disk = MemoryDisk::new(rt.alloc());
@@ -193,6 +217,8 @@ casts HELLO_AT_64
 asks positions 0: positions 0 64 -1
 ";
 
+/// After a client's block the image's next one is refused: the image is lost, and the session keeps what it wrote. A refused line
+/// takes nothing away.
 #[test]
 fn a_refused_block_takes_the_image_away(rt: HostRuntime) -> Result<(), Fail> {
     let disk = MemoryDisk::new(rt.alloc());
@@ -217,6 +243,8 @@ sends positi
 asks-alone merge-state: error 9 UnknownReplay
 ends";
 
+/// `reopen`, `compact` and `images` are BadLine. A line in pieces is answered, and one that is cut off harms no client. A client
+/// that is idle leaves its place to one that waits.
 #[test]
 fn each_client_is_served(rt: HostRuntime) -> Result<(), Fail> {
     let disk = MemoryDisk::new(rt.alloc());
@@ -232,6 +260,7 @@ asks merge 42 65536 64: merge 64
 
 asks merge-state: merged no 64";
 
+/// A merge that one connection began goes on in the next one, if one client is served at a time.
 #[test]
 fn a_merge_goes_on_in_the_next_connection(rt: HostRuntime) -> Result<(), Fail> {
     let disk = MemoryDisk::new(rt.alloc());
@@ -249,6 +278,7 @@ receives NAK_AT_0
 asks merge 42 65536 0: merge 0
 ";
 
+/// Without an open archive lines that need it are Broken. Merges and NAKs go on.
 #[test]
 fn lines_are_broken_where_no_archive_is_open(rt: HostRuntime) -> Result<(), Fail> {
     let mut disk = MemoryDisk::new(rt.alloc());
@@ -268,6 +298,7 @@ asks start 1001 7 42 65536 1408 65536 65472 1000 c: started 0 0
 awaits positions 0: positions 65472 65600 -1
 ";
 
+/// Blocks of two segments that wait for their session are all recorded.
 #[test]
 fn a_batch_goes_over_a_segment(rt: HostRuntime) -> Result<(), Fail> {
     let disk = MemoryDisk::new(rt.alloc());

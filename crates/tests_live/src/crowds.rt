@@ -37,14 +37,14 @@ fn is_served<R: Threads + Wait + Clock + Net<Listener = TcpListener, Stream = Tc
     clients: u32,
     crowd: Crowd,
 ) -> bool {
-    let Some((listener, socket, ports)) = bound(rt) else {
+    let Some((ends, ports)) = bound(rt) else {
         return false;
     };
     let options = for_clients(1, Some(clients));
     let disk = MemoryDisk::new(alloc);
     let (has_ended, is_right) = thread::join(
         rt,
-        move || { serve_with(rt, alloc, listener, socket, disk, &options, Unreported).is_ok() },
+        move || { serve_with(rt, alloc, ends, disk, &options, Unreported).is_ok() },
         move || does(rt, alloc, ports, crowd),
     );
     has_ended && is_right
@@ -148,18 +148,21 @@ fn waits(alloc: Global, mut first: Client, mut second: Client, mut third: Client
         && !second.hears(alloc, "")
 }
 
+/// With four clients at a time, one polls without a pause while three others are answered.
 #[test]
 fn one_polls_while_three_are_answered(rt: HostRuntime) -> Result<(), Fail> {
     assert!(rt; is_served(&rt, rt.alloc(), 4, Crowd::Polls));
     Ok(())
 }
 
+/// If all places are taken, a client that waits gets the place of one that is idle for too long. The others stay.
 #[test]
 fn an_idle_client_leaves_its_place(rt: HostRuntime) -> Result<(), Fail> {
     assert!(rt; is_served(&rt, rt.alloc(), 2, Crowd::Idles));
     Ok(())
 }
 
+/// `quit` of one client ends the connections of those that are idle, or within a line.
 #[test]
 fn a_quit_ends_all_connections(rt: HostRuntime) -> Result<(), Fail> {
     assert!(rt; is_served(&rt, rt.alloc(), 3, Crowd::Waits));
@@ -194,6 +197,8 @@ asks replay 0 0 -1: replay 0
 
 asks poll 0 1: more 0";
 
+/// A replay that a connection leaves open is closed with `--clients`, and stays without. A merge stays if one client is served at
+/// a time.
 #[test]
 fn what_a_connection_leaves(rt: HostRuntime) -> Result<(), Fail> {
     for (clients, conversation) in [(Some(1), ALONE), (Some(2), BESIDE), (None, LEFT)] {

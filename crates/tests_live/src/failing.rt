@@ -250,7 +250,8 @@ pub(crate) fn faults<D: Disk + Counted + Drop, A: Naming, R: Wait + Abort>(
     Ok(())
 }
 
-/// Each call of the disk fails, until none does: the last one is the first call of the next opening.
+/// Calls under a lock are answered as they have to be, whichever call of the disk fails. The last one is the next opening's
+/// first.
 #[test]
 fn each_call_of_a_disk_fails(rt: HostRuntime) -> Result<(), Fail> {
     for call in 1..=CALLS + 1 {
@@ -355,7 +356,8 @@ pub(crate) fn each_again<D: Disk + Counted + Drop, A: Naming, R: Wait + Abort>(
     again(rt, alloc, archive, seats, &SCRIPT, 52)
 }
 
-/// `trials/refused_memory.py tests` runs the test once for each of its requests, which it refuses.
+/// Each line that finds no memory changes nothing, and is answered if it is asked again: `trials/refused_memory.py tests` refuses
+/// one request of each run.
 #[test]
 fn refused_memory_of_each_call(rt: HostRuntime) -> Result<(), Fail> {
     played_again(&rt, rt.alloc(), true, Scenario::EachAgain)?;
@@ -399,7 +401,7 @@ pub(crate) fn reads_again<D: Disk + Counted + Drop, A: Naming, R: Wait + Abort>(
     again(rt, alloc, archive, seats, &READINGS, 24)
 }
 
-/// A poll that finds no memory leaves its replay where it is.
+/// A poll that finds no memory leaves its replay where it is, and gives its frames if it is asked again.
 #[test]
 fn refused_memory_of_each_reading(rt: HostRuntime) -> Result<(), Fail> {
     played_again(&rt, rt.alloc(), true, Scenario::ReadAgain)

@@ -16,6 +16,8 @@ use std::process::Abort;
 use std::sync::Wait;
 use std::test::Fail;
 
+/// A bounded replayer gives no frame past the position that it saw in its recorder's slot, and each turn is one call, also if
+/// refused.
 #[test]
 fn a_recorder_holds_a_replayer_back(rt: HostRuntime) -> Result<(), Fail> {
     played(&rt, rt.alloc(), true, Scenario::HeldBack)

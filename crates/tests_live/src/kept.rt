@@ -68,7 +68,7 @@ fn answered(alloc: Global, disk: MemoryDisk, script: &str, answers: &str) -> Opt
     }
 }
 
-/// A server over an archive with two recordings, whose client lists them. All recordings and frames are afterwards as before.
+/// A server whose client only lists leaves all recordings and frames as they were.
 #[test]
 fn a_server_keeps_what_nobody_asks_to_change(rt: HostRuntime) -> Result<(), Fail> {
     let alloc = rt.alloc();

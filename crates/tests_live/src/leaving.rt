@@ -30,6 +30,7 @@ asks images: image 2 7 1001 42 65536 1408 192 -
 follows end 1
 ";
 
+/// With `--aeron` `stop` frees the image's place. `extend` takes a new image at the stop position, and one further on waits.
 #[test]
 fn an_extended_recording_takes_a_new_image(rt: HostRuntime) -> Result<(), Fail> {
     let disk = MemoryDisk::new(rt.alloc());
@@ -59,6 +60,8 @@ asks images: image 1 7 1001 42 65536 1408 64 0
 follows end 1
 ";
 
+/// An image leaves after ten seconds of silence, not before. Its session stays open, and takes the next image that joins where
+/// its recording stands.
 #[test]
 fn a_silent_image_leaves(rt: HostRuntime) -> Result<(), Fail> {
     let disk = MemoryDisk::new(rt.alloc());
@@ -73,6 +76,7 @@ rests
 asks images: end 0
 ";
 
+/// 200 publications are recorded one after another, with 64 places of images.
 #[test]
 fn more_publications_are_recorded_than_there_are_places(rt: HostRuntime) -> Result<(), Fail> {
     let disk = MemoryDisk::new(rt.alloc());

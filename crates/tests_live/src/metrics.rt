@@ -38,6 +38,8 @@ const ARCHIVE: ArchiveMeasures = ArchiveMeasures {
     is_full: false,
     entries: 2,
     limit: 1_048_576,
+    checkpoints: 0,
+    refused_checkpoints: 0,
 };
 
 const DATAGRAMS: DatagramMeasures = DatagramMeasures {
@@ -133,14 +135,14 @@ fn measured<R: Threads + Wait + Clock + Net<Listener = TcpListener, Stream = Tcp
     is_measured: bool,
     lines: &'static str,
 ) -> Option<Outcome> {
-    let (listener, socket, ports) = bound(rt)?;
+    let (ends, ports) = bound(rt)?;
     let (told, seen) = (Told::new(), unseen());
     let (told, seen) = (&told, &seen);
     let mut options = options(60, SETTLE_EVERY);
     options.is_measured = is_measured;
     let (has_ended, is_held) = thread::join(
         rt,
-        move || { serve_with(rt, alloc, listener, socket, disk, &options, Looking(seen)).is_ok() },
+        move || { serve_with(rt, alloc, ends, disk, &options, Looking(seen)).is_ok() },
         move || holds(rt, alloc, ports, told, lines),
     );
     let outcome = Outcome {
@@ -171,6 +173,7 @@ fn unseen() -> Seen {
     }
 }
 
+/// A measured server reports what it recorded, received and answered, by exact numbers.
 #[test]
 fn a_server_is_measured_each_second(rt: HostRuntime) -> Result<(), Fail> {
     let disk = MemoryDisk::new(rt.alloc());
@@ -179,6 +182,7 @@ fn a_server_is_measured_each_second(rt: HostRuntime) -> Result<(), Fail> {
     Ok(())
 }
 
+/// A server that is not to be measured reports no measures.
 #[test]
 fn a_server_is_not_measured_unasked(rt: HostRuntime) -> Result<(), Fail> {
     let disk = MemoryDisk::new(rt.alloc());
@@ -187,6 +191,7 @@ fn a_server_is_not_measured_unasked(rt: HostRuntime) -> Result<(), Fail> {
     Ok(())
 }
 
+/// After a device fault the measures say that the archive is broken.
 #[test]
 fn a_broken_archive_is_measured(rt: HostRuntime) -> Result<(), Fail> {
     let disk = failing(rt.alloc()).ok_or("disk")?;

@@ -32,16 +32,14 @@ fn misfits<R: Threads + Wait + Clock + Net<Listener = TcpListener, Stream = TcpS
     alloc: Global,
     conversation: &str,
 ) -> Option<u32> {
-    let (listener, socket, ports) = bound(rt)?;
+    let (ends, ports) = bound(rt)?;
     let told = Told::new();
     let told = &told;
     let options = options(60, SETTLE_EVERY);
     let disk = MemoryDisk::new(alloc);
     let (has_ended, is_right) = thread::join(
         rt,
-        move || {
-            serve_with(rt, alloc, listener, socket, disk, &options, told.reporter()).is_ok()
-        },
+        move || { serve_with(rt, alloc, ends, disk, &options, told.reporter()).is_ok() },
         move || holds(rt, alloc, ports, told, conversation),
     );
     if has_ended && is_right {
@@ -51,6 +49,7 @@ fn misfits<R: Threads + Wait + Clock + Net<Listener = TcpListener, Stream = TcpS
     }
 }
 
+/// An image and a session of one publication that don't fit are reported once for each two.
 #[test]
 fn a_misfit_is_reported_once(rt: HostRuntime) -> Result<(), Fail> {
     assert!(rt; misfits(&rt, rt.alloc(), TWO) == Some(2));
@@ -73,6 +72,7 @@ fn point(term_length: i32, position: i64) -> StreamPoint {
     }
 }
 
+/// The line of a misfit has each number that differs, the image's first.
 #[test]
 fn a_misfit_says_what_differs(rt: HostRuntime) -> Result<(), Fail> {
     let misfit = Happening::Session(SessionNews::Misfit {

@@ -35,6 +35,8 @@ asks stop 0 5: stopped 192
 silence
 ";
 
+/// A stream gets status messages from `start` to `stop`, by time and by what was taken. A gap is asked for again without a
+/// datagram.
 #[test]
 fn a_recorded_stream_gets_status_messages(rt: HostRuntime) -> Result<(), Fail> {
     let disk = MemoryDisk::new(rt.alloc());
@@ -57,6 +59,7 @@ casts HELLO_AT_0
 receives-among STATUS_AT_64
 ";
 
+/// A sender that was silent for ten seconds gets none. It is asked for its setup frame when it goes on.
 #[test]
 fn a_silent_sender_gets_no_status_messages(rt: HostRuntime) -> Result<(), Fail> {
     let disk = MemoryDisk::new(rt.alloc());
@@ -74,6 +77,7 @@ casts-elsewhere HELLO_AT_0
 receives-among STATUS_AT_64
 ";
 
+/// Status messages go to the address of the setup frame, also while frames come from another one.
 #[test]
 fn another_address_gets_no_status_messages(rt: HostRuntime) -> Result<(), Fail> {
     let disk = MemoryDisk::new(rt.alloc());
@@ -98,6 +102,7 @@ asks images: image 0 7 1001 42 65536 1408 0 0
 follows end 1
 ";
 
+/// A stream without an image is asked for its setup frame, once in 200 milliseconds. `images` shows the image and its session.
 #[test]
 fn an_unknown_stream_is_asked_for_its_setup_frame(rt: HostRuntime) -> Result<(), Fail> {
     let disk = MemoryDisk::new(rt.alloc());
@@ -118,6 +123,7 @@ casts PAD_AT_TERM_END
 awaits positions 0: positions 0 65536 -1
 ";
 
+/// A pad that ends past the window is dropped, asked for once the stream has come near, and recorded.
 #[test]
 fn a_pad_past_the_window_is_asked_for(rt: HostRuntime) -> Result<(), Fail> {
     let disk = MemoryDisk::new(rt.alloc());

@@ -15,13 +15,14 @@ use std::process::Abort;
 use std::sync::Wait;
 use std::test::Fail;
 
+/// A bounded replayer's turn over a damaged frame is Damaged, each time, and each is one call.
 #[test]
 fn a_turn_over_damage(rt: HostRuntime) -> Result<(), Fail> {
     played(&rt, rt.alloc(), true, Scenario::DamagedTurn)
 }
 
-/// A turn that finds no memory is no call, and another one gives what it would have: trials/refused_memory.py runs this test
-/// for each of its requests for memory, which it refuses.
+/// A turn that finds no memory is no call, and another one gives what it would have: `trials/refused_memory.py` refuses one
+/// request of each run.
 #[test]
 fn refused_memory_leaves_a_turn(rt: HostRuntime) -> Result<(), Fail> {
     played_again(&rt, rt.alloc(), true, Scenario::TurnAgain)

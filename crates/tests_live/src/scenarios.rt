@@ -20,16 +20,19 @@ fn both<R: Threads + Wait + Abort + Sync>(
     played(rt, alloc, false, scenario)
 }
 
+/// An archive does not close without the passes of all calls: it says how many are missing, and closes once they are given.
 #[test]
 fn a_missing_pass(rt: HostRuntime) -> Result<(), Fail> {
     both(&rt, rt.alloc(), Scenario::MissingPass)
 }
 
+/// A replay under the lock gives the frames from its position to its bound, and then `done`.
 #[test]
 fn bounded_part_of_a_recording(rt: HostRuntime) -> Result<(), Fail> {
     both(&rt, rt.alloc(), Scenario::BoundedPart)
 }
 
+/// After a failed write each pass is refused every change and reads what was recorded. The archive closes.
 #[test]
 fn an_archive_that_breaks(rt: HostRuntime) -> Result<(), Fail> {
     both(&rt, rt.alloc(), Scenario::Break)

@@ -3,7 +3,7 @@
 use crate::client::{Client, Ports};
 use crate::conversations::holds;
 use disk_core::Disk;
-use server::{Happening, Reporter, SETTLE_EVERY, ServeOptions, SessionNews, serve_with};
+use server::{Ends, Happening, Reporter, SETTLE_EVERY, ServeOptions, SessionNews, serve_with};
 use std::alloc::Global;
 use std::net::{Net, TcpListener, TcpStream, UdpSocket};
 use std::rt::Clock;
@@ -90,13 +90,13 @@ pub(crate) fn served_with<
     R: Threads + Wait + Clock + Net<Listener = TcpListener, Stream = TcpStream> + Sync,
     D: Disk + Drop + Send,
 >(rt: &R, alloc: Global, disk: D, options: ServeOptions<'_>, conversation: &str) -> Option<D> {
-    let (listener, socket, ports) = bound(rt)?;
+    let (ends, ports) = bound(rt)?;
     let told = Told::new();
     let told = &told;
     let (back, is_right) = thread::join(
         rt,
         move || {
-            match serve_with(rt, alloc, listener, socket, disk, &options, Counting(told)) {
+            match serve_with(rt, alloc, ends, disk, &options, Counting(told)) {
                 Ok(served) => Some(served.disk),
                 Err(_) => None,
             }
@@ -110,7 +110,7 @@ pub(crate) fn served_with<
 }
 
 /// Whether `quit` is answered by `bye`.
-fn quits<R: Net<Listener = TcpListener, Stream = TcpStream>>(
+pub(crate) fn quits<R: Net<Listener = TcpListener, Stream = TcpStream>>(
     rt: &R,
     alloc: Global,
     ports: Ports,
@@ -124,12 +124,17 @@ fn quits<R: Net<Listener = TcpListener, Stream = TcpStream>>(
 /// A listener and a socket on free ports.
 pub(crate) fn bound<R: Net<Listener = TcpListener, Stream = TcpStream>>(
     rt: &R,
-) -> Option<(TcpListener, UdpSocket, Ports)> {
-    let listener = TcpListener::bind(rt, "127.0.0.1:0").ok()?;
-    let socket = UdpSocket::bind(rt, "127.0.0.1:0").ok()?;
+) -> Option<(Ends, Ports)> {
+    let control = TcpListener::bind(rt, "127.0.0.1:0").ok()?;
+    let datagrams = UdpSocket::bind(rt, "127.0.0.1:0").ok()?;
     let ports = Ports {
-        control: listener.local_addr().ok()?,
-        receive: socket.local_addr().ok()?,
+        control: control.local_addr().ok()?,
+        receive: datagrams.local_addr().ok()?,
     };
-    Some((listener, socket, ports))
+    let ends = Ends {
+        control,
+        consumers: None,
+        datagrams,
+    };
+    Some((ends, ports))
 }

@@ -52,6 +52,7 @@ casts HELLO_AT_128
 awaits positions 0: positions 0 192 -1
 ";
 
+/// With `--settle-every 0` each batch is settled at once: an entry for each message.
 #[test]
 fn each_batch_settles_at_0(rt: HostRuntime) -> Result<(), Fail> {
     let entries = entries(&rt, rt.alloc(), 0, ONE_BY_ONE);
@@ -59,6 +60,7 @@ fn each_batch_settles_at_0(rt: HostRuntime) -> Result<(), Fail> {
     Ok(())
 }
 
+/// `positions` has a session settled whose blocks would wait for ten minutes.
 #[test]
 fn a_session_settles_when_a_client_asks(rt: HostRuntime) -> Result<(), Fail> {
     let entries = entries(&rt, rt.alloc(), LONG, ONE_BY_ONE);
@@ -75,6 +77,7 @@ rests
 asks positions 0: positions 0 640 -1
 ";
 
+/// Messages that come within the wait settle together: ten take at most five entries.
 #[test]
 fn messages_settle_together_by_time(rt: HostRuntime) -> Result<(), Fail> {
     let entries = entries(&rt, rt.alloc(), 1_000, TEN).ok_or("served")?;
@@ -95,6 +98,7 @@ asks positions 0: positions 0 64 -1
 asks positions 0: positions 0 128 -1
 ";
 
+/// `positions` shows what was settled before it. The next one shows what it has settled.
 #[test]
 fn the_next_positions_show_it(rt: HostRuntime) -> Result<(), Fail> {
     let entries = entries(&rt, rt.alloc(), LONG, ASKED_TWICE);
@@ -114,6 +118,7 @@ rests
 asks positions 0: positions 65472 131072 -1
 ";
 
+/// A block of 65,536 bytes settles at once, and does not wait.
 #[test]
 fn so_many_bytes_settle_at_once(rt: HostRuntime) -> Result<(), Fail> {
     let entries = entries(&rt, rt.alloc(), LONG, LARGE);
@@ -135,6 +140,7 @@ asks stop 0 2000: stopped 192
 asks stop 0 2000: error 3 NotActive
 ";
 
+/// What was written before `stop` is recorded. A second `stop` is NotActive.
 #[test]
 fn a_stop_keeps_what_was_written(rt: HostRuntime) -> Result<(), Fail> {
     let entries = entries(&rt, rt.alloc(), LONG, STOPPED);
@@ -153,6 +159,7 @@ casts HELLO_AT_128
 rests
 ";
 
+/// What was written and not settled is recorded when the server ends.
 #[test]
 fn all_sessions_settle_at_the_end(rt: HostRuntime) -> Result<(), Fail> {
     let disk = settled(&rt, rt.alloc(), LONG, ENDED).ok_or("served")?;

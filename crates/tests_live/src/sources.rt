@@ -79,6 +79,7 @@ fn given<R: Wait + Drop + Send>(
 
 const DATAGRAMS: &[&[u8]] = &[HELLO_AT_0, HELLO_CUT_OFF, HELLO_AT_128, HELLO_AT_64];
 
+/// A source of datagrams gives blocks in order, asks once for what is missing, and gives the rest once that came.
 #[test]
 fn blocks_come_in_order_behind_a_loss(rt: HostRuntime) -> Result<(), Fail> {
     let (given, end) = given(&rt, rt.alloc(), DATAGRAMS)?;

@@ -39,14 +39,14 @@ fn served<R: Threads + Wait + Clock + Net<Listener = TcpListener, Stream = TcpSt
     is_strict: bool,
     said: Said,
 ) -> Option<Served<MemoryDisk>> {
-    let (listener, socket, ports) = bound(rt)?;
+    let (ends, ports) = bound(rt)?;
     let told = Told::new();
     let told = &told;
     let mut options = options(60, SETTLE_EVERY);
     options.is_strict = is_strict;
     let (served, is_right) = thread::join(
         rt,
-        move || { serve_with(rt, alloc, listener, socket, disk, &options, told.reporter()).ok() },
+        move || { serve_with(rt, alloc, ends, disk, &options, told.reporter()).ok() },
         move || is_answered(rt, alloc, ports, told, said),
     );
     if is_right { served } else { None }
@@ -132,6 +132,7 @@ fn failing_after(alloc: Global, calls: u64) -> Option<MemoryDisk> {
     Some(disk)
 }
 
+/// A strict server without an archive ends before any line, and says by which refusal.
 #[test]
 fn without_an_archive_it_ends(rt: HostRuntime) -> Result<(), Fail> {
     let disk = not_a_catalogue(rt.alloc());
@@ -153,6 +154,7 @@ asks start 1001 7 42 65536 1408 65536 0 1000 c: error 16 Broken
 asks quit: bye
 ";
 
+/// A strict server ends after the call that broke its archive. Another one answers on, Broken.
 #[test]
 fn it_ends_by_a_device_fault(rt: HostRuntime) -> Result<(), Fail> {
     let disk = failing(rt.alloc()).ok_or("disk")?;
@@ -163,6 +165,7 @@ fn it_ends_by_a_device_fault(rt: HostRuntime) -> Result<(), Fail> {
     Ok(())
 }
 
+/// A strict server that quits with a broken archive says so too.
 #[test]
 fn a_quit_says_that_it_is_broken(rt: HostRuntime) -> Result<(), Fail> {
     let disk = failing(rt.alloc()).ok_or("disk")?;
@@ -186,6 +189,7 @@ asks start 1001 7 42 65536 1408 65536 0 1000 c: error 11 HistoryFull
 asks quit: bye
 ";
 
+/// A strict server ends after the last entry of its history, and at once if it is full. Another one answers on.
 #[test]
 fn it_ends_by_a_full_history(rt: HostRuntime) -> Result<(), Fail> {
     let disk = of_limit(rt.alloc(), 2).ok_or("disk")?;
@@ -207,6 +211,7 @@ casts HELLO_AT_0
 ends
 ";
 
+/// A strict server ends after a settle that makes the last entry.
 #[test]
 fn it_ends_by_a_settling_too(rt: HostRuntime) -> Result<(), Fail> {
     let disk = of_limit(rt.alloc(), 2).ok_or("disk")?;
@@ -215,6 +220,7 @@ fn it_ends_by_a_settling_too(rt: HostRuntime) -> Result<(), Fail> {
     Ok(())
 }
 
+/// A strict server ends after a block that the disk fails to write.
 #[test]
 fn it_ends_by_a_block_that_the_disk_fails(rt: HostRuntime) -> Result<(), Fail> {
     let disk = failing_after(rt.alloc(), FAILS_AFTER_AN_ENTRY).ok_or("disk")?;

@@ -53,6 +53,28 @@ const SETUP_AT_192: &[u8] = &[
     0, 0, 0, 1, 0, 0x80, 5, 0, 0, 0, 0, 0, 0,
 ];
 
+/// The setup frame joined at offset 49,152: further on than a publication reaches from its beginning.
+const SETUP_FAR_ON: &[u8] = &[
+    0x28, 0, 0, 0, 0, 0, 5, 0, 0, 0xc0, 0, 0, 7, 0, 0, 0, 0xe9, 3, 0, 0, 0x2a, 0, 0, 0, 0x2a, 0, 0,
+    0, 0, 0, 1, 0, 0x80, 5, 0, 0, 0, 0, 0, 0,
+];
+
+/// `hello`, term 42, offset 192.
+const HELLO_AT_192: &[u8] =
+    b"\x25\0\0\0\0\xc0\x01\0\xc0\0\0\0\x07\0\0\0\xe9\x03\0\0\x2a\0\0\0\0\0\0\0\0\0\0\0hello";
+
+/// A heartbeat of a sender that stands at offset 192.
+const HEARTBEAT_AT_192: &[u8] = &[
+    0, 0, 0, 0, 0, 0xc0, 1, 0, 0xc0, 0, 0, 0, 7, 0, 0, 0, 0xe9, 3, 0, 0, 0x2a, 0, 0, 0, 0, 0, 0, 0,
+    0, 0, 0, 0,
+];
+
+/// A request for 64 bytes at offset 128 of term 42.
+const NAK_AT_128: &[u8] = &[
+    0x1c, 0, 0, 0, 0, 0, 2, 0, 7, 0, 0, 0, 0xe9, 3, 0, 0, 0x2a, 0, 0, 0, 0x80, 0, 0, 0, 0x40, 0, 0,
+    0,
+];
+
 /// The setup frame of a session id.
 pub(crate) fn setup_of(session_id: u8) -> [u8; 40] {
     let mut frame = [0; 40];
@@ -117,21 +139,27 @@ const NAK_IN_NEXT_TERM: &[u8] = &[
     0,
 ];
 
-/// A status message: consumed to the beginning of term 42, a window of half a term, receiver 9.
+/// A status message: consumed to the beginning of term 42, a window of five sixteenths of a term, receiver 9.
 const STATUS_AT_0: &[u8] = &[
-    0x24, 0, 0, 0, 0, 0, 3, 0, 7, 0, 0, 0, 0xe9, 3, 0, 0, 0x2a, 0, 0, 0, 0, 0, 0, 0, 0, 0x80, 0, 0,
+    0x24, 0, 0, 0, 0, 0, 3, 0, 7, 0, 0, 0, 0xe9, 3, 0, 0, 0x2a, 0, 0, 0, 0, 0, 0, 0, 0, 0x50, 0, 0,
     9, 0, 0, 0, 0, 0, 0, 0,
 ];
 
 /// Consumed to offset 64 of term 42.
 const STATUS_AT_64: &[u8] = &[
-    0x24, 0, 0, 0, 0, 0, 3, 0, 7, 0, 0, 0, 0xe9, 3, 0, 0, 0x2a, 0, 0, 0, 0x40, 0, 0, 0, 0, 0x80, 0,
+    0x24, 0, 0, 0, 0, 0, 3, 0, 7, 0, 0, 0, 0xe9, 3, 0, 0, 0x2a, 0, 0, 0, 0x40, 0, 0, 0, 0, 0x50, 0,
     0, 9, 0, 0, 0, 0, 0, 0, 0,
 ];
 
 /// Consumed to offset 192 of term 42.
 const STATUS_AT_192: &[u8] = &[
-    0x24, 0, 0, 0, 0, 0, 3, 0, 7, 0, 0, 0, 0xe9, 3, 0, 0, 0x2a, 0, 0, 0, 0xc0, 0, 0, 0, 0, 0x80, 0,
+    0x24, 0, 0, 0, 0, 0, 3, 0, 7, 0, 0, 0, 0xe9, 3, 0, 0, 0x2a, 0, 0, 0, 0xc0, 0, 0, 0, 0, 0x50, 0,
+    0, 9, 0, 0, 0, 0, 0, 0, 0,
+];
+
+/// Consumed to offset 128 of term 42.
+const STATUS_AT_128: &[u8] = &[
+    0x24, 0, 0, 0, 0, 0, 3, 0, 7, 0, 0, 0, 0xe9, 3, 0, 0, 0x2a, 0, 0, 0, 0x80, 0, 0, 0, 0, 0x50, 0,
     0, 9, 0, 0, 0, 0, 0, 0, 0,
 ];
 
@@ -172,11 +200,12 @@ const NAK_OF_PAD: &[u8] = &[
 ];
 
 /// The datagrams that conversations name.
-const DATAGRAMS: [(&'static str, &'static [u8]); 26] = [
+const DATAGRAMS: [(&'static str, &'static [u8]); 31] = [
     ("HELLO_AT_0", HELLO_AT_0),
     ("HELLO_AT_64", HELLO_AT_64),
     ("HELLO_AT_64_CUT_OFF", HELLO_AT_64_CUT_OFF),
     ("HELLO_AT_128", HELLO_AT_128),
+    ("HELLO_AT_192", HELLO_AT_192),
     ("HELLO_AT_TERM_END", HELLO_AT_TERM_END),
     ("HELLO_IN_NEXT_TERM", HELLO_IN_NEXT_TERM),
     ("HELLO_LATER", HELLO_LATER),
@@ -185,18 +214,22 @@ const DATAGRAMS: [(&'static str, &'static [u8]); 26] = [
     ("SETUP_AT_TERM_END", SETUP_AT_TERM_END),
     ("SETUP_AT_64", SETUP_AT_64),
     ("SETUP_AT_192", SETUP_AT_192),
+    ("SETUP_FAR_ON", SETUP_FAR_ON),
     ("SETUP_OF_LONG_TERM", SETUP_OF_LONG_TERM),
     ("PAD_OF_LONG_TERM", PAD_OF_LONG_TERM),
     ("NAK_AT_0", NAK_AT_0),
     ("NAK_AT_64", NAK_AT_64),
+    ("NAK_AT_128", NAK_AT_128),
     ("NAK_IN_NEXT_TERM", NAK_IN_NEXT_TERM),
     ("STATUS_AT_0", STATUS_AT_0),
     ("STATUS_AT_64", STATUS_AT_64),
+    ("STATUS_AT_128", STATUS_AT_128),
     ("STATUS_AT_192", STATUS_AT_192),
     ("SETUP_ASKED", SETUP_ASKED),
     ("PAD_AT_0", PAD_AT_0),
     ("PAD_IN_THE_MIDDLE", PAD_IN_THE_MIDDLE),
     ("PAD_AT_TERM_END", PAD_AT_TERM_END),
+    ("HEARTBEAT_AT_192", HEARTBEAT_AT_192),
     ("HEARTBEAT_IN_NEXT_TERM", HEARTBEAT_IN_NEXT_TERM),
     ("NAK_OF_PAD", NAK_OF_PAD),
 ];

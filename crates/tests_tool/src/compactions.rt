@@ -37,7 +37,7 @@ const BANK_A: [u8; 118] = [
 ];
 
 /// Fails where a file of the disk has other bytes, or more.
-fn check_file(disk: &mut MemoryDisk, file: FileId, bytes: &[u8]) -> Result<(), Fail> {
+pub fn check_file(disk: &mut MemoryDisk, file: FileId, bytes: &[u8]) -> Result<(), Fail> {
     let mut read = [0; 200];
     let count = disk.read_at(file, 0, &mut read)?;
     if read.get(..count) == Some(bytes) {

@@ -6,6 +6,8 @@
 #[cfg(test)]
 mod captures;
 #[cfg(test)]
+mod checkpoints;
+#[cfg(test)]
 mod compactions;
 #[cfg(test)]
 mod damage;

@@ -1,7 +1,7 @@
 //! What `describe` tells of the archives of disks: docs/CONTROL.md, "A page for people".
 
 use super::views::{SCRIPT, after};
-use archive_report::{Form, describe_archive};
+use archive_report::{Form, Moment, describe_archive};
 use disk_core::{Disk, FileId, MemoryDisk};
 use std::alloc::Global;
 use std::test::*;
@@ -18,8 +18,19 @@ fn with_further_files(alloc: Global) -> Result<MemoryDisk, Fail> {
 
 /// Fails where the description of the archive of a disk is another.
 fn check(alloc: Global, disk: MemoryDisk, form: Form, told: &str) -> Result<(), Fail> {
+    check_asked(alloc, disk, None, form, told)
+}
+
+/// The same of the recording of an id alone.
+fn check_asked(
+    alloc: Global,
+    disk: MemoryDisk,
+    asked: Option<i64>,
+    form: Form,
+    told: &str,
+) -> Result<(), Fail> {
     let mut out = Vec::new(alloc);
-    if describe_archive(alloc, disk, form, &mut out, &mut Unobserved).is_err() {
+    if describe_archive(alloc, disk, asked, form, &mut out, &mut Unobserved).is_err() {
         return Err(Fail::new("the description ended early"));
     }
     if out.as_slice() == told.as_bytes() {
@@ -167,4 +178,71 @@ fn a_page_of_a_source(rt: HostRuntime) -> Result<(), Fail> {
         history    1 of 1048576 entries\n\
         catalogue  version 2\n",
     )
+}
+
+/// One recording alone, with its files.
+#[test]
+fn a_document_of_one_recording(rt: HostRuntime) -> Result<(), Fail> {
+    check_asked(
+        rt.alloc(),
+        with_further_files(rt.alloc())?,
+        Some(0),
+        Form::Json,
+        "{\"active\":false,\"channel\":\"c\",\"disk_bytes\":65,\"initial_term_id\":42,\"mtu\":1408,\
+        \"recorded_bytes\":64,\"recorded_position\":64,\"recording\":0,\"segment_files\":2,\"segment_length\":131072,\
+        \"session_id\":7,\"source_identity\":\"\",\"start_position\":0,\"start_timestamp\":1000,\"started\":\"1970-01-01T00:00:01Z\",\
+        \"stop_timestamp\":2000,\"stopped\":\"1970-01-01T00:00:02Z\",\"stream_id\":1001,\"term_length\":65536}\n",
+    )
+}
+
+/// A recording that was stopped at this time.
+fn stopped_at(alloc: Global, timestamp: &str) -> Result<MemoryDisk, Fail> {
+    let lines = format!(in alloc;
+        "start 1001 7 42 65536 1408 131072 0 1000 c\nstop 0 {timestamp}\n"
+    )?;
+    after(alloc, lines.as_str())
+}
+
+/// A stop before its start is taken, and has no date.
+#[test]
+fn a_stop_before_its_start(rt: HostRuntime) -> Result<(), Fail> {
+    for (timestamp, told) in [
+        ("999", "999 (before its start)"),
+        ("0", "0 (before its start)"),
+        ("1000", "1970-01-01T00:00:01Z"),
+    ] {
+        let page = format!(in rt.alloc();
+            "recording 0, stopped\n  channel    c\n  stream     1001\n  session    7\n  started    1970-01-01T00:00:01Z\n  \
+            stopped    {told}\n  positions  0 to 0\n  recorded   0 bytes\n  on disk    0 bytes in 0 segment files\n  \
+            lengths    term 65536, segment 131072, MTU 1408\n\n"
+        )?;
+        let disk = stopped_at(rt.alloc(), timestamp)?;
+        check_asked(rt.alloc(), disk, Some(0), Form::Page, page.as_str())?;
+    }
+    check_asked(
+        rt.alloc(),
+        stopped_at(rt.alloc(), "999")?,
+        Some(0),
+        Form::Json,
+        "{\"active\":false,\"channel\":\"c\",\"disk_bytes\":0,\"initial_term_id\":42,\"mtu\":1408,\
+        \"recorded_bytes\":0,\"recorded_position\":0,\"recording\":0,\"segment_files\":0,\"segment_length\":131072,\
+        \"session_id\":7,\"source_identity\":\"\",\"start_position\":0,\"start_timestamp\":1000,\"started\":\"1970-01-01T00:00:01Z\",\
+        \"stop_timestamp\":999,\"stopped\":null,\"stream_id\":1001,\"term_length\":65536}\n",
+    )
+}
+
+/// A moment has all digits of its milliseconds.
+#[test]
+fn a_moment(rt: HostRuntime) -> Result<(), Fail> {
+    for (millis, told) in [
+        (0, "1970-01-01T00:00:00.000Z"),
+        (1_000_120, "1970-01-01T00:16:40.120Z"),
+        (1_764_405_696_007, "2025-11-29T08:41:36.007Z"),
+        (-1, "1970-01-01T00:00:00.000Z"),
+        (i64::MAX, "9223372036854775807"),
+    ] {
+        let text = Moment(millis).to_string(rt.alloc())?;
+        assert!(rt; text.as_str() == told, "{millis}");
+    }
+    Ok(())
 }

@@ -55,7 +55,7 @@ fn check_listed(alloc: Global, disk: MemoryDisk, told: &str) -> Result<(), Fail>
 /// What `verify` tells of an archive, and its verdict.
 fn verified<A: Verifiable>(alloc: Global, archive: &mut A) -> Result<(Vec<u8>, Verdict), Fail> {
     let mut out = Vec::new(alloc);
-    match verify_recordings(alloc, archive, &mut out, &mut Unobserved) {
+    match verify_recordings(alloc, archive, None, &mut out, &mut Unobserved) {
         Ok(verdict) => Ok((out, verdict)),
         Err(_) => Err(Fail::new("the verification ended early")),
     }

@@ -84,7 +84,7 @@ fn add_line(text: &mut String, line: &str) -> Result<(), Fail> {
 }
 
 /// The text of these lines, which stand apart by `; ` here.
-fn text_of(alloc: Global, lines: &str) -> Result<String, Fail> {
+pub fn text_of(alloc: Global, lines: &str) -> Result<String, Fail> {
     let mut text = String::new(alloc);
     for line in lines.split("; ") {
         add_line(&mut text, line)?;

@@ -58,7 +58,7 @@ fn put(disk: &mut MemoryDisk, file: FileId, bytes: &[u8]) -> Result<(), Fail> {
 }
 
 /// A disk with the archive of version 1: a recording with one frame, which is active.
-fn of_version_1(alloc: Global) -> Result<MemoryDisk, Fail> {
+pub fn of_version_1(alloc: Global) -> Result<MemoryDisk, Fail> {
     let mut disk = MemoryDisk::new(alloc);
     let segment = FileId::Segment {
         recording: 0,

@@ -46,7 +46,7 @@ pub fn check_verified(
     verdict: Verdict,
 ) -> Result<(), Fail> {
     let mut out = Vec::new(alloc);
-    let Ok((_, finding)) = verify_view(alloc, disk, &mut out, &mut Unobserved) else {
+    let Ok((_, finding)) = verify_view(alloc, disk, None, &mut out, &mut Unobserved) else {
         return Err(Fail::new("the verification ended early"));
     };
     if out.as_slice() == told.as_bytes() && finding.verdict == verdict && !finding.is_moving {

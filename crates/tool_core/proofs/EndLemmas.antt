@@ -7,7 +7,7 @@ use Rattle.tool_core.specs.declared.fault.EarlyEnd.{EarlyEnd}
 use Rattle.tool_core.specs.declared.fault.EarlyEnd.TheVariants as ends
 use Rattle.tool_core.specs.declared.state.ScriptState.{ScriptState}
 use Rattle.tool_core.specs.InputLines.{lines_of}
-use Rattle.tool_core.specs.Answering.{AnswersFirstLines, AnswersLines, EndsEarly, Replies, Ways, ended_by, quits}
+use Rattle.tool_core.specs.Answering.{AnswersFirstLines, AnswersLines, Checkpointing, EndsEarly, Replies, Ways, ended_by, quits}
 use Rattle.tool_core.specs.Transcript.{LeftNear, Transcript, WritesText, until_quit}
 
 -- ---- what is right, told by another word
@@ -39,18 +39,18 @@ unflushed input contents written flushed P Q follows writes =
 
 -- ---- the state that is left
 
-module _ {A : Type 0} (ways : Ways A) (first new : ScriptState A) where
+module _ {A : Type 0} (ways : Ways A) (checkpoints : Checkpointing A) (first new : ScriptState A) where
   -- all lines are the first of them
-  left_behind : (s : ScriptState A) (lines : List (List ℕ)) → s ≡ new → LeftNear first (λ s. s ≡ new) quits (Replies ways) s lines
+  left_behind : (s : ScriptState A) (lines : List (List ℕ)) → s ≡ new → LeftNear first (λ s. s ≡ new) quits (Replies ways checkpoints) s lines
   left_behind s [] left = left
   left_behind s (line ∷ lines) left = inl left
 
-  all_first : (lines : List (List ℕ)) (text : List ℕ) → AnswersLines ways first new lines text → AnswersFirstLines ways first new lines text
+  all_first : (lines : List (List ℕ)) (text : List ℕ) → AnswersLines ways checkpoints first new lines text → AnswersFirstLines ways checkpoints first new lines text
   all_first lines text all =
       let n : ℕ = length (until_quit quits lines) in (
         n,
         all.0,
-        subst (λ ls. Transcript (Replies ways) first ls text all.0) (sym (take_all n (until_quit quits lines) (le_refl _))) all.1,
+        subst (λ ls. Transcript (Replies ways checkpoints) first ls text all.0) (sym (take_all n (until_quit quits lines) (le_refl _))) all.1,
         left_behind all.0 _ all.2,
       )
 
@@ -58,41 +58,41 @@ module _ {A : Type 0} (ways : Ways A) (first new : ScriptState A) where
 
   -- what lines were answered, by a result
   pub record Ran (input contents written : Option (List ℕ)) (result : Result (Unit {0}) EarlyEnd) : Type 0 where
-    pub whole : OnOk result (WritesText input contents written (AnswersLines ways first new))
-    pub early : IfErr result (λ end. EndsEarly end (AnswersFirstLines ways first new) input contents written)
+    pub whole : OnOk result (WritesText input contents written (AnswersLines ways checkpoints first new))
+    pub early : IfErr result (λ end. EndsEarly end (AnswersFirstLines ways checkpoints first new) input contents written)
 
-  pub ran_of : (as_input input contents written : Option (List ℕ)) (result : Result (Unit {0}) EarlyEnd) → as_input ≡ input → OnOk result (WritesText as_input contents written (AnswersLines ways first new))
-      → IfErr result (λ end. EndsEarly end (AnswersFirstLines ways first new) as_input contents written) → Ran input contents written result
+  pub ran_of : (as_input input contents written : Option (List ℕ)) (result : Result (Unit {0}) EarlyEnd) → as_input ≡ input → OnOk result (WritesText as_input contents written (AnswersLines ways checkpoints first new))
+      → IfErr result (λ end. EndsEarly end (AnswersFirstLines ways checkpoints first new) as_input contents written) → Ran input contents written result
   ran_of as_input input contents written result same whole early = subst (λ (i : Option (List ℕ)). Ran i contents written result) same (record { whole = whole; early = early })
 
   -- the lines were read to their end, and what was written was handed on
   pub ends_well : (input contents written flushed : Option (List ℕ)) (result after : Result (Unit {0}) EarlyEnd) (is_flushed : Bool) → Ran input contents written result → after ≡ ended_by result is_flushed → Keeps written flushed
-      → OnOk after (WritesText input contents flushed (AnswersLines ways first new))
-  ends_well input contents written flushed result after is_flushed ran is keeps = subst (λ (r : Result (Unit {0}) EarlyEnd). OnOk r (WritesText input contents flushed (AnswersLines ways first new))) (sym is) (by result is_flushed ran)
+      → OnOk after (WritesText input contents flushed (AnswersLines ways checkpoints first new))
+  ends_well input contents written flushed result after is_flushed ran is keeps = subst (λ (r : Result (Unit {0}) EarlyEnd). OnOk r (WritesText input contents flushed (AnswersLines ways checkpoints first new))) (sym is) (by result is_flushed ran)
     where
-      by : (result : Result (Unit {0}) EarlyEnd) (is_flushed : Bool) → Ran input contents written result → OnOk (ended_by result is_flushed) (WritesText input contents flushed (AnswersLines ways first new))
+      by : (result : Result (Unit {0}) EarlyEnd) (is_flushed : Bool) → Ran input contents written result → OnOk (ended_by result is_flushed) (WritesText input contents flushed (AnswersLines ways checkpoints first new))
       by (Ok done) true ran = writes_as input contents written flushed _ _ (λ lines text all. all) keeps ran.whole
       by (Ok done) false ran = tt
       by (Err end) is_flushed ran = tt
 
   -- or not
   pub ends_early : (input contents written flushed : Option (List ℕ)) (result after : Result (Unit {0}) EarlyEnd) (is_flushed : Bool) → Ran input contents written result → after ≡ ended_by result is_flushed → Keeps written flushed
-      → IfErr after (λ end. EndsEarly end (AnswersFirstLines ways first new) input contents flushed)
-  ends_early input contents written flushed result after is_flushed ran is keeps = subst (λ (r : Result (Unit {0}) EarlyEnd). IfErr r (λ end. EndsEarly end (AnswersFirstLines ways first new) input contents flushed)) (sym is) (by result is_flushed ran)
+      → IfErr after (λ end. EndsEarly end (AnswersFirstLines ways checkpoints first new) input contents flushed)
+  ends_early input contents written flushed result after is_flushed ran is keeps = subst (λ (r : Result (Unit {0}) EarlyEnd). IfErr r (λ end. EndsEarly end (AnswersFirstLines ways checkpoints first new) input contents flushed)) (sym is) (by result is_flushed ran)
     where
-      by : (result : Result (Unit {0}) EarlyEnd) (is_flushed : Bool) → Ran input contents written result → IfErr (ended_by result is_flushed) (λ end. EndsEarly end (AnswersFirstLines ways first new) input contents flushed)
+      by : (result : Result (Unit {0}) EarlyEnd) (is_flushed : Bool) → Ran input contents written result → IfErr (ended_by result is_flushed) (λ end. EndsEarly end (AnswersFirstLines ways checkpoints first new) input contents flushed)
       by (Ok done) true ran = tt
       by (Ok done) false ran = unflushed input contents written flushed _ _ all_first ran.whole
       by (Err end) is_flushed ran = early_as end input contents written flushed _ _ (λ lines text some. some) keeps ran.early
 
 -- where there was no memory for a reader's buffer no line is answered
-pub none_answered : {A : Type 0} (ways : Ways A) (first : ScriptState A) (input contents : Option (List ℕ)) → EndsEarly ends.Memory (AnswersFirstLines ways first first) input contents contents
-none_answered ways first input contents = record { text = []; appended = Appends-nil contents; right = by input }
+pub none_answered : {A : Type 0} (ways : Ways A) (checkpoints : Checkpointing A) (first : ScriptState A) (input contents : Option (List ℕ)) → EndsEarly ends.Memory (AnswersFirstLines ways checkpoints first first) input contents contents
+none_answered ways checkpoints first input contents = record { text = []; appended = Appends-nil contents; right = by input }
   where
-    near : (lines : List (List ℕ)) → LeftNear first (λ s. s ≡ first) quits (Replies ways) first lines
+    near : (lines : List (List ℕ)) → LeftNear first (λ s. s ≡ first) quits (Replies ways checkpoints) first lines
     near [] = refl
     near (line ∷ lines) = inl refl
 
-    by : (input : Option (List ℕ)) → IfSome input (λ bytes. AnswersFirstLines ways first first (lines_of bytes) [])
+    by : (input : Option (List ℕ)) → IfSome input (λ bytes. AnswersFirstLines ways checkpoints first first (lines_of bytes) [])
     by None = tt
     by (Some bytes) = (0, first, (refl, refl), near (until_quit quits (lines_of bytes)))

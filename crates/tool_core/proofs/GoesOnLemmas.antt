@@ -78,6 +78,7 @@ line_goes_on old (lines.Block session bytes) outcome new ((first, mid, written, 
 line_goes_on old lines.Reopen outcome new is = opens_go_on (life_of old.archive) outcome new.archive is.0
 line_goes_on old lines.Compact outcome new is = compacts_go_on old.archive outcome new.archive is.0
 line_goes_on old (lines.Merge line) outcome new is = same_goes old.archive new.archive is.1
+line_goes_on old (lines.Follow fields) outcome new is = subst (λ (x : ScriptState SeenArchive). DiskGoesOn (life_of old.archive) (life_of x.archive)) (sym is.1) (no_calls (life_of old.archive))
 line_goes_on old lines.Quit outcome new is = subst (λ (x : ScriptState SeenArchive). DiskGoesOn (life_of old.archive) (life_of x.archive)) (sym is.1) (no_calls (life_of old.archive))
 
 pub answer_goes_on : (takes : Bool) (old : ScriptState SeenArchive) (line : Result Line Refusal) (outcome : Result Reply Refusal) (new : ScriptState SeenArchive) → IsAnswer archive_ways takes old line outcome new

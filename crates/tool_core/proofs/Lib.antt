@@ -15,6 +15,7 @@ mod RestartLemmas
 mod CompactLemmas
 mod BeginLemmas
 mod LineLemmas
+mod CheckpointLemmas
 mod ScriptLemmas
 mod WholeLemmas
 mod GoingOnLemmas

@@ -12,7 +12,7 @@ use Rattle.catalogue_log.specs.LogState.{Banks}
 use Rattle.tool_core.specs.Answering.{IsAnswer, LineIs}
 use Rattle.tool_core.specs.Archives.{Closed, SeenArchive, archive_ways, life_of}
 use Rattle.tool_core.specs.Merging.{Ends}
-use Rattle.tool_core.specs.ScriptLines.{ReadLineOrWant, Calls, LeavesMeanwhile, LineEnds, OrWant, Records, Scene, Standing, WhereOpen, WritesBytes}
+use Rattle.tool_core.specs.ScriptLines.{ReadLineOrWant, LeavesMeanwhile, LineEnds, OrWant, Records, Scene, Standing, WhereOpen, WritesBytes}
 use Rattle.tool_core.proofs.BanksLemmas.{IsBanksOf, KeepsBanks, banks_kept, calls_banks, records_keep, reopen_banks, stays_or, stays_so, writes_keep}
 use Rattle.tool_core.proofs.CallLemmas.{Kept, bytes_kept, event_kept}
 use Rattle.tool_core.proofs.CompactLemmas.{compact_kept}
@@ -91,6 +91,8 @@ line_done old s b lines.Compact outcome new of_disk stands told obeys is =
     (k.after, k.banks, k.stands, k.told, ((k.ends, is.1), k.meanwhile))
 line_done old s b (lines.Merge line) outcome new of_disk stands told obeys is =
     same_archive old new s b (lines.Merge line) outcome is.1 of_disk stands told (is.0, refl, refl, ap (λ (x : SeenArchive). life_of x) is.1)
+line_done old s b (lines.Follow fields) outcome new of_disk stands told obeys is =
+    same_archive old new s b (lines.Follow fields) outcome (ap (λ (x : ScriptState SeenArchive). x.archive) is.1) of_disk stands told (is.0, same_scene old new s b is.1)
 line_done old s b lines.Quit outcome new of_disk stands told obeys is =
     same_archive old new s b lines.Quit outcome (ap (λ (x : ScriptState SeenArchive). x.archive) is.1) of_disk stands told (is.0, same_scene old new s b is.1)
 

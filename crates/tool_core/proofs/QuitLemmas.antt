@@ -1,5 +1,5 @@
 -- The line that quits is read as that.
-use Rattle.std.proofs.Common.{◌≡◌, refl, sym, subst, true, List, ℕ, Result, Ok, Option, Some, None, inl, rules}
+use Rattle.std.proofs.Common.{◌≡◌, ap, refl, sym, subst, Bool, true, List, ℕ, Result, Ok, Option, Some, None, inl, rules}
 use Rattle.std.specs.Prelude.{codes, bytes_eq}
 use Rattle.std.specs.Str.{IsUtf8}
 use Rattle.std.proofs.lemmas.Str.{IsUtf8-from_ascii, is_utf8-from_IsUtf8}
@@ -10,7 +10,7 @@ use Rattle.control_lines.specs.declared.line.Line.{Line}
 use Rattle.control_lines.specs.declared.line.Line.TheVariants.{Quit}
 use Rattle.control_lines.specs.Lines.{line_of, read_of, text_of}
 use Rattle.tool_core.specs.declared.state.ScriptState.{ScriptState}
-use Rattle.tool_core.specs.Answering.{IsAnswer, Ways, asked, asked_copies, quits}
+use Rattle.tool_core.specs.Answering.{IsAnswer, Ways, asked, asked_copies, offered, quits}
 
 quit_is_text : text_of (codes "quit") ≡ Ok Quit
 unfolding text_of
@@ -27,7 +27,7 @@ asked_to_quit : (bytes : List ℕ) → bytes_eq bytes (codes "quit") ≡ true �
 asked_to_quit bytes is = subst (λ (b : List ℕ). line_of b ≡ Ok Quit) (sym ((bytes_eq-Decides bytes (codes "quit")).0 is)) quit_is_read
 
 -- its answer is `bye`, and nothing has changed
-pub quits_answered : {A : Type 0} (ways : Ways A) (line : Option (List ℕ)) (state : ScriptState A) → quits line ≡ true → IsAnswer ways (asked_copies line) state (asked line) (Ok Bye) state
-quits_answered ways None state is = absurd cc
-quits_answered ways (Some bytes) state is =
-    subst (λ (a : Result Line Refusal). IsAnswer ways (asked_copies (Some bytes)) state a (Ok Bye) state) (sym (asked_to_quit bytes is)) (inl (refl, refl))
+pub quits_answered : {A : Type 0} (ways : Ways A) (offers : Bool) (line : Option (List ℕ)) (state : ScriptState A) → quits line ≡ true → IsAnswer ways (asked_copies line) state (asked offers line) (Ok Bye) state
+quits_answered ways offers None state is = absurd cc
+quits_answered ways offers (Some bytes) state is =
+    subst (λ (a : Result Line Refusal). IsAnswer ways (asked_copies (Some bytes)) state a (Ok Bye) state) (sym (ap (offered offers) (asked_to_quit bytes is))) (inl (refl, refl))

@@ -6,7 +6,7 @@ use Rattle.archive_model.specs.declared.reply.Reply.{Reply}
 use Rattle.control_lines.specs.declared.line.Line.{Line}
 use Rattle.control_lines.specs.declared.line.Line.TheVariants as lines
 use Rattle.tool_core.specs.declared.state.ScriptState.{ScriptState}
-use Rattle.tool_core.specs.Answering.{AnswersFirstLines, AnswersLines, IsAnswer, LineIs, ReadLineIs, Replies, ThenSettles, Ways, WritesBytes, WritesRead, asked, asked_copies, quits, ways_seen}
+use Rattle.tool_core.specs.Answering.{AnswersFirstLines, AnswersLines, Checkpointing, IsAnswer, LineIs, ReadLineIs, Replies, ThenSettles, Ways, WritesBytes, WritesRead, asked, asked_copies, checkpointing_seen, quits, ways_seen}
 use Rattle.tool_core.proofs.SimulationLemmas.{all_as, some_as}
 
 module _ {A B : Type 0} (view : A → B) (ways : Ways B) where
@@ -37,35 +37,42 @@ module _ {A B : Type 0} (view : A → B) (ways : Ways B) where
   line_is old lines.Reopen outcome new is = is
   line_is old lines.Compact outcome new is = is
   line_is old (lines.Merge line) outcome new is = (is.0, ap view is.1)
+  line_is old (lines.Follow fields) outcome new is = (is.0, ap state_seen is.1)
   line_is old lines.Quit outcome new is = (is.0, ap state_seen is.1)
 
   read_line_is : (old : ScriptState A) (line : Result Line Refusal) (outcome : Result Reply Refusal) (new : ScriptState A) → ReadLineIs Seen old line outcome new → ReadLineIs ways (state_seen old) line outcome (state_seen new)
   read_line_is old (Ok line) outcome new is = line_is old line outcome new is
   read_line_is old (Err refusal) outcome new is = (is.0, ap state_seen is.1)
 
-  is_answer : (takes : Bool) (old : ScriptState A) (line : Result Line Refusal) (outcome : Result Reply Refusal) (new : ScriptState A) → IsAnswer Seen takes old line outcome new → IsAnswer ways takes (state_seen old) line outcome (state_seen new)
+  pub is_answer : (takes : Bool) (old : ScriptState A) (line : Result Line Refusal) (outcome : Result Reply Refusal) (new : ScriptState A) → IsAnswer Seen takes old line outcome new → IsAnswer ways takes (state_seen old) line outcome (state_seen new)
   is_answer takes old line outcome new (inl is) = inl (read_line_is old line outcome new is)
   is_answer takes old line outcome new (inr (takes_it, want, same)) = inr (takes_it, want, ap state_seen same)
 
-  pub replies_seen : (old : ScriptState A) (line : Option (List ℕ)) (text : List ℕ) (new : ScriptState A) → Replies Seen old line text new → Replies ways (state_seen old) line text (state_seen new)
-  replies_seen old line text new (outcome, answer, is) = (outcome, is_answer (asked_copies line) old (asked line) outcome new answer, is)
-
   -- ---- lines one after another
 
-  back : (s : ScriptState A) (line : Option (List ℕ)) (reply : List ℕ) (t : ScriptState A) → Replies Seen s line reply t → Unit {0} → Unit {0}
-  back s line reply t replies good = tt
+  module _ (checkpoints : Checkpointing B) where
+    abbrev pub SeenCheckpoints : Checkpointing A
+    SeenCheckpoints = checkpointing_seen view checkpoints
 
-  step : (s : ScriptState A) (line : Option (List ℕ)) (reply : List ℕ) (t : ScriptState A) (x : ScriptState B) → Replies Seen s line reply t → Unit {0} → x ≡ state_seen s → (y : ScriptState B) × (y ≡ state_seen t) × Replies ways x line reply y
-  step s line reply t x replies good is = (state_seen t, refl, subst (λ (y : ScriptState B). Replies ways y line reply (state_seen t)) (sym is) (replies_seen s line reply t replies))
+    pub replies_seen : (old : ScriptState A) (line : Option (List ℕ)) (text : List ℕ) (new : ScriptState A) → Replies Seen SeenCheckpoints old line text new → Replies ways checkpoints (state_seen old) line text (state_seen new)
+    replies_seen old line text new (mid, prepared, (outcome, answer, is)) =
+        (state_seen mid, prepared, (outcome, is_answer (asked_copies line) mid (asked (checkpoints.offers (view mid.archive)) line) outcome new answer, is))
 
-  module _ (first last : ScriptState A) (lines : List (List ℕ)) (text : List ℕ) where
-    left : (s : ScriptState A) (x : ScriptState B) → s ≡ last → x ≡ state_seen s → x ≡ state_seen last
-    left s x same is = is ∙ ap state_seen same
+    back : (s : ScriptState A) (line : Option (List ℕ)) (reply : List ℕ) (t : ScriptState A) → Replies Seen SeenCheckpoints s line reply t → Unit {0} → Unit {0}
+    back s line reply t replies good = tt
 
-    pub lines_seen : AnswersLines Seen first last lines text → AnswersLines ways (state_seen first) (state_seen last) lines text
-    lines_seen answers =
-        all_as (Replies Seen) (Replies ways) (λ s. Unit {0}) (λ s x. x ≡ state_seen s) back step first (state_seen first) quits (λ s. s ≡ last) (λ x. x ≡ state_seen last) (λ s same. tt) left refl lines text answers
+    step : (s : ScriptState A) (line : Option (List ℕ)) (reply : List ℕ) (t : ScriptState A) (x : ScriptState B) → Replies Seen SeenCheckpoints s line reply t → Unit {0} → x ≡ state_seen s
+        → (y : ScriptState B) × (y ≡ state_seen t) × Replies ways checkpoints x line reply y
+    step s line reply t x replies good is = (state_seen t, refl, subst (λ (y : ScriptState B). Replies ways checkpoints y line reply (state_seen t)) (sym is) (replies_seen s line reply t replies))
 
-    pub first_lines_seen : AnswersFirstLines Seen first last lines text → AnswersFirstLines ways (state_seen first) (state_seen last) lines text
-    first_lines_seen answers =
-        some_as (Replies Seen) (Replies ways) (λ s. Unit {0}) (λ s x. x ≡ state_seen s) back step first (state_seen first) quits (λ s. s ≡ last) (λ x. x ≡ state_seen last) (λ s same. tt) left refl lines text answers
+    module _ (first last : ScriptState A) (lines : List (List ℕ)) (text : List ℕ) where
+      left : (s : ScriptState A) (x : ScriptState B) → s ≡ last → x ≡ state_seen s → x ≡ state_seen last
+      left s x same is = is ∙ ap state_seen same
+
+      pub lines_seen : AnswersLines Seen SeenCheckpoints first last lines text → AnswersLines ways checkpoints (state_seen first) (state_seen last) lines text
+      lines_seen answers =
+          all_as (Replies Seen SeenCheckpoints) (Replies ways checkpoints) (λ s. Unit {0}) (λ s x. x ≡ state_seen s) back step first (state_seen first) quits (λ s. s ≡ last) (λ x. x ≡ state_seen last) (λ s same. tt) left refl lines text answers
+
+      pub first_lines_seen : AnswersFirstLines Seen SeenCheckpoints first last lines text → AnswersFirstLines ways checkpoints (state_seen first) (state_seen last) lines text
+      first_lines_seen answers =
+          some_as (Replies Seen SeenCheckpoints) (Replies ways checkpoints) (λ s. Unit {0}) (λ s x. x ≡ state_seen s) back step first (state_seen first) quits (λ s. s ≡ last) (λ x. x ≡ state_seen last) (λ s same. tt) left refl lines text answers

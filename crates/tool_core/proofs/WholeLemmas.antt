@@ -1,5 +1,5 @@
 -- A script from its opening to the disk that comes back.
-use Rattle.std.proofs.Common.{◌≡◌, ℕ, List, Option, Result, Ok, Err, IsTrue, subst, sym}
+use Rattle.std.proofs.Common.{◌≡◌, ℕ, Bool, List, Option, Result, Ok, Err, IsTrue, subst, sym}
 use Rattle.std.specs.Prelude.{IfErr, OnOk}
 use Rattle.std.proofs.KnownBytes.{Keeps-refl}
 use Rattle.disk_core.specs.declared.disk.Disk as Disk
@@ -10,11 +10,13 @@ use Rattle.tool_core.specs.declared.fault.EarlyEnd.{EarlyEnd}
 use Rattle.tool_core.specs.declared.observer.Beginning.{Beginning}
 use Rattle.catalogue_log.specs.LogState.{Banks}
 use Rattle.tool_core.specs.declared.state.ScriptState.{ScriptState}
-use Rattle.tool_core.specs.Answering.{AnswersFirstLines, AnswersLines, EndsEarly, Ways, begun_with, ways_seen}
-use Rattle.tool_core.specs.Archives.{BeginsAs, IsScript, IsScriptOfFirst, ReadsMayStay, SeenArchive, archive_seen, archive_ways, life_of}
-use Rattle.tool_core.specs.Script.{Begins, IsTranscript, IsTranscriptOfFirst}
+use Rattle.tool_core.specs.Answering.{AnswersFirstLines, AnswersLines, Checkpointing, EndsEarly, Ways, begun_with, checkpointing_seen, quits, ways_seen}
+use Rattle.tool_core.specs.Archives.{BeginsAs, IsScriptBy, ReadsMayStay, SeenArchive, archive_seen, archive_ways, life_of}
+use Rattle.tool_core.specs.Script.{Begins, IsTranscriptBy, LeavesScene}
+use Rattle.tool_core.specs.Checkpoints.{script_checkpoints}
+use Rattle.tool_core.specs.CheckpointedScript.{AnswersScene}
 use Rattle.tool_core.specs.ScriptLines.{Standing}
-use Rattle.tool_core.specs.Transcript.{WritesText}
+use Rattle.tool_core.specs.Transcript.{AnswersAll, AnswersSome, WritesText}
 use Rattle.tool_core.proofs.EndLemmas.{early_as, writes_as}
 use Rattle.tool_core.proofs.ScriptLemmas.{transcript, transcript_of_first}
 use Rattle.tool_core.proofs.SeenLemmas.{first_lines_seen, lines_seen, state_seen}
@@ -26,40 +28,56 @@ pub seen_of_disk : {D : Type 0} {dg : Disk.Ghosts D} (life : D → Life) → ((d
 seen_of_disk life stays (archives.Open engine) = record { tied = engine.archive.tied; stays = stays engine.archive.storage.disk }
 seen_of_disk life stays (archives.Closed disk) = stays disk
 
-module _ {A : Type 0} (view : A → SeenArchive) (old : Life) (input contents written : Option (List ℕ)) (first : A) (last : ScriptState A) (beginning : Beginning) (begins : BeginsAs old beginning (view first)) (begun : ScriptState A) (is_begun : begun ≡ begun_with first) (new : Life) (left : new ≡ life_of (view last.archive)) where
+module _ (makes : Bool) {A : Type 0} (view : A → SeenArchive) (old : Life) (input contents written : Option (List ℕ)) (first : A) (last : ScriptState A) (beginning : Beginning) (begins : BeginsAs old beginning (view first)) (begun : ScriptState A) (is_begun : begun ≡ begun_with first) (new : Life) (left : new ≡ life_of (view last.archive)) where
   abbrev ways : Ways A
   ways = ways_seen view archive_ways
 
-  -- what was answered, over the archive of the disk
-  module _ (result : Result (Unit {0}) EarlyEnd) (done : Unit {0}) (is : result ≡ Ok done) (answers : OnOk result (WritesText input contents written (AnswersLines ways begun last))) where
-    answered : WritesText input contents written (AnswersLines ways (begun_with first) last)
-    answered =
-        subst (λ (s : ScriptState A). WritesText input contents written (AnswersLines ways s last)) is_begun
-        (subst (λ (r : Result (Unit {0}) EarlyEnd). OnOk r (WritesText input contents written (AnswersLines ways begun last))) is answers)
+  abbrev checkpoints : Checkpointing A
+  checkpoints = checkpointing_seen view (script_checkpoints makes)
 
-    pub whole : WritesText input contents written (IsScript old new)
-    whole = writes_as input contents written written (AnswersLines ways (begun_with first) last) (IsScript old new)
-        (λ lines text answers. record { first = view first; beginning = beginning; begins = begins; last = state_seen view archive_ways last; answers = lines_seen view archive_ways (begun_with first) last lines text answers; left = left }) (Keeps-refl written)
+  -- what the text is, whatever the archive is, and exactly
+  abbrev Whole : List (List ℕ) → List ℕ → Type 0
+  Whole = IsScriptBy (AnswersLines archive_ways (script_checkpoints makes)) old new
+
+  abbrev Early : List (List ℕ) → List ℕ → Type 0
+  Early = IsScriptBy (AnswersFirstLines archive_ways (script_checkpoints makes)) old new
+
+  abbrev Exact : Standing → Banks → List (List ℕ) → List ℕ → Type 0
+  Exact standing banks = IsTranscriptBy (λ begun. AnswersAll begun (LeavesScene new) quits (AnswersScene makes)) standing banks old
+
+  abbrev ExactEarly : Standing → Banks → List (List ℕ) → List ℕ → Type 0
+  ExactEarly standing banks = IsTranscriptBy (λ begun. AnswersSome begun (LeavesScene new) quits (AnswersScene makes)) standing banks old
+
+  -- what was answered, over the archive of the disk
+  module _ (result : Result (Unit {0}) EarlyEnd) (done : Unit {0}) (is : result ≡ Ok done) (answers : OnOk result (WritesText input contents written (AnswersLines ways checkpoints begun last))) where
+    answered : WritesText input contents written (AnswersLines ways checkpoints (begun_with first) last)
+    answered =
+        subst (λ (s : ScriptState A). WritesText input contents written (AnswersLines ways checkpoints s last)) is_begun
+        (subst (λ (r : Result (Unit {0}) EarlyEnd). OnOk r (WritesText input contents written (AnswersLines ways checkpoints begun last))) is answers)
+
+    pub whole : WritesText input contents written Whole
+    whole = writes_as input contents written written (AnswersLines ways checkpoints (begun_with first) last) Whole
+        (λ lines text answers. record { first = view first; beginning = beginning; begins = begins; last = state_seen view archive_ways last; answers = lines_seen view archive_ways (script_checkpoints makes) (begun_with first) last lines text answers; left = left }) (Keeps-refl written)
         answered
 
     -- exactly, where the disk obeys
-    pub kept : OneState → ((archive : A) → IsOfDisk (view archive)) → ReadsMayStay old → (standing : Standing) (banks : Banks) → Begins old standing banks → IsTrue new.obeys → WritesText input contents written (IsTranscript standing banks old new)
-    kept one_state of_disk may standing banks from obeys = writes_as input contents written written (AnswersLines ways (begun_with first) last) (IsTranscript standing banks old new)
-        (λ lines text answers. transcript view of_disk new last left obeys one_state old first beginning begins may standing banks from lines text answers) (Keeps-refl written) answered
+    pub kept : OneState → ((archive : A) → IsOfDisk (view archive)) → ReadsMayStay old → (standing : Standing) (banks : Banks) → Begins old standing banks → IsTrue new.obeys → WritesText input contents written (Exact standing banks)
+    kept one_state of_disk may standing banks from obeys = writes_as input contents written written (AnswersLines ways checkpoints (begun_with first) last) (Exact standing banks)
+        (λ lines text answers. transcript makes view of_disk new last left obeys one_state old first beginning begins may standing banks from lines text answers) (Keeps-refl written) answered
 
   -- the same of the first lines
-  module _ (early_end end : EarlyEnd) (ends : early_end ≡ end) (result : Result (Unit {0}) EarlyEnd) (is : result ≡ Err end) (answers : IfErr result (λ end. EndsEarly end (AnswersFirstLines ways begun last) input contents written)) where
-    answered_first : EndsEarly early_end (AnswersFirstLines ways (begun_with first) last) input contents written
+  module _ (early_end end : EarlyEnd) (ends : early_end ≡ end) (result : Result (Unit {0}) EarlyEnd) (is : result ≡ Err end) (answers : IfErr result (λ end. EndsEarly end (AnswersFirstLines ways checkpoints begun last) input contents written)) where
+    answered_first : EndsEarly early_end (AnswersFirstLines ways checkpoints (begun_with first) last) input contents written
     answered_first =
-        subst (λ (s : ScriptState A). EndsEarly early_end (AnswersFirstLines ways s last) input contents written) is_begun
-        (subst (λ (e : EarlyEnd). EndsEarly e (AnswersFirstLines ways begun last) input contents written) (sym ends)
-        (subst (λ (r : Result (Unit {0}) EarlyEnd). IfErr r (λ end. EndsEarly end (AnswersFirstLines ways begun last) input contents written)) is answers))
+        subst (λ (s : ScriptState A). EndsEarly early_end (AnswersFirstLines ways checkpoints s last) input contents written) is_begun
+        (subst (λ (e : EarlyEnd). EndsEarly e (AnswersFirstLines ways checkpoints begun last) input contents written) (sym ends)
+        (subst (λ (r : Result (Unit {0}) EarlyEnd). IfErr r (λ end. EndsEarly end (AnswersFirstLines ways checkpoints begun last) input contents written)) is answers))
 
-    pub early : EndsEarly early_end (IsScriptOfFirst old new) input contents written
-    early = early_as early_end input contents written written (AnswersFirstLines ways (begun_with first) last) (IsScriptOfFirst old new)
-        (λ lines text answers. record { first = view first; beginning = beginning; begins = begins; last = state_seen view archive_ways last; answers = first_lines_seen view archive_ways (begun_with first) last lines text answers; left = left }) (Keeps-refl written)
+    pub early : EndsEarly early_end Early input contents written
+    early = early_as early_end input contents written written (AnswersFirstLines ways checkpoints (begun_with first) last) Early
+        (λ lines text answers. record { first = view first; beginning = beginning; begins = begins; last = state_seen view archive_ways last; answers = first_lines_seen view archive_ways (script_checkpoints makes) (begun_with first) last lines text answers; left = left }) (Keeps-refl written)
         answered_first
 
-    pub kept_early : OneState → ((archive : A) → IsOfDisk (view archive)) → ReadsMayStay old → (standing : Standing) (banks : Banks) → Begins old standing banks → IsTrue new.obeys → EndsEarly early_end (IsTranscriptOfFirst standing banks old new) input contents written
-    kept_early one_state of_disk may standing banks from obeys = early_as early_end input contents written written (AnswersFirstLines ways (begun_with first) last) (IsTranscriptOfFirst standing banks old new)
-        (λ lines text answers. transcript_of_first view of_disk new last left obeys one_state old first beginning begins may standing banks from lines text answers) (Keeps-refl written) answered_first
+    pub kept_early : OneState → ((archive : A) → IsOfDisk (view archive)) → ReadsMayStay old → (standing : Standing) (banks : Banks) → Begins old standing banks → IsTrue new.obeys → EndsEarly early_end (ExactEarly standing banks) input contents written
+    kept_early one_state of_disk may standing banks from obeys = early_as early_end input contents written written (AnswersFirstLines ways checkpoints (begun_with first) last) (ExactEarly standing banks)
+        (λ lines text answers. transcript_of_first makes view of_disk new last left obeys one_state old first beginning begins may standing banks from lines text answers) (Keeps-refl written) answered_first

@@ -1,5 +1,5 @@
 -- How a script's lines are answered by whoever answers them: an archive, alone or shared. docs/CONTROL.md, "Scripts".
-use Rattle.std.specs.Prelude.{◌≡◌, ℕ, ℤ, Bool, true, false, List, Option, Some, None, Result, Ok, Err, IfSome, MatchResult, bytes_eq, codes, ◌⊎◌}
+use Rattle.std.specs.Prelude.{◌≡◌, ◌&&◌, ℕ, ℤ, Bool, true, false, not, if◌then◌else◌, List, Option, Some, None, Result, Ok, Err, IfSome, MatchResult, bytes_eq, codes, ◌⊎◌}
 use Rattle.std.specs.Io.KnownBytes.{Appends, Keeps}
 use Rattle.frame_core.specs.declared.block.Block.{Block}
 use Rattle.frame_core.specs.declared.geometry.Geometry.{Geometry}
@@ -42,6 +42,20 @@ ways_seen view ways = record {
   compact = λ old outcome new. ways.compact (view old) outcome (view new);
 }
 
+-- How checkpoints come to an answerer: whether the line `checkpoint` asks for one, and what may be done before each line is
+-- answered.
+pub record Checkpointing (A : Type 0) : Type 1 where
+  pub offers : A → Bool
+  pub before : A → A → Type 0
+
+-- the line is none, and nothing is done
+abbrev pub no_checkpoints : {A : Type 0} → Checkpointing A
+no_checkpoints = record { offers = λ a. false; before = λ old new. new ≡ old }
+
+-- of what is seen so
+abbrev pub checkpointing_seen : {A B : Type 0} → (A → B) → Checkpointing B → Checkpointing A
+checkpointing_seen view c = record { offers = λ a. c.offers (view a); before = λ old new. c.before (view old) (view new) }
+
 -- the bytes of a block are read by these terms, which may want memory; without terms they are not read
 abbrev pub BlockIsRead : Result Geometry Refusal → List ℕ → Result Block Refusal → Type 0
 BlockIsRead (Err refusal) bytes read = read ≡ Err refusal
@@ -50,10 +64,20 @@ BlockIsRead (Ok g) bytes read = IsReadBy (Ok g) bytes read
 
 -- ---- lines
 
--- what a line asks for; one that is too long is none
-abbrev pub asked : Option (List ℕ) → Result Line Refusal
-asked None = Err BadLine
-asked (Some bytes) = line_of bytes
+-- the line asks for a checkpoint
+abbrev pub is_checkpoint : Line → Bool
+is_checkpoint (lines.Event events.Checkpoint) = true
+is_checkpoint line = false
+
+-- a line that asks for a checkpoint is none where none is offered
+abbrev pub offered : Bool → Result Line Refusal → Result Line Refusal
+offered offers (Ok line) = if is_checkpoint line && not offers then Err BadLine else Ok line
+offered offers (Err refusal) = Err refusal
+
+-- what a line asks for, where checkpoints are offered or not; one that is too long is none
+abbrev pub asked : Bool → Option (List ℕ) → Result Line Refusal
+asked offers None = Err BadLine
+asked offers (Some bytes) = offered offers (line_of bytes)
 
 -- reading it takes memory; one that is too long is not read
 abbrev pub asked_copies : Option (List ℕ) → Bool
@@ -80,6 +104,10 @@ FailsToAnswer ends.Write contents written = Unit {0}
 -- an answerer, and no merge yet
 abbrev pub begun_with : {A : Type 0} → A → ScriptState A
 begun_with first = record { archive = first; merge = None }
+
+-- what may be done before a line; the merge stays
+abbrev pub Prepares : {A : Type 0} → Checkpointing A → ScriptState A → ScriptState A → Type 0
+Prepares checkpoints old new = checkpoints.before old.archive new.archive × (new.merge ≡ old.merge)
 
 module _ {A : Type 0} (ways : Ways A) where
   -- what was read as a block is written
@@ -120,6 +148,7 @@ module _ {A : Type 0} (ways : Ways A) where
   LineIs s (lines.Event event) = OfArchive s (ways.call event)
   LineIs s (lines.Write session bytes) = OfArchive s (WritesBytes session bytes)
   LineIs s (lines.Block session bytes) = OfArchive s (Records session bytes)
+  LineIs s (lines.Follow fields) = Stays s (Err BadLine)
   LineIs s lines.Reopen = OfArchive s ways.reopen
   LineIs s lines.Compact = OfArchive s ways.compact
   LineIs s (lines.Merge line) = OfMerge s (λ merge. MergeEnds merge line)
@@ -134,24 +163,30 @@ module _ {A : Type 0} (ways : Ways A) where
   abbrev pub IsAnswer : Bool → ScriptState A → Result Line Refusal → Ends (ScriptState A)
   IsAnswer takes s line outcome new = ReadLineIs s line outcome new ⊎ ((takes ≡ true) × (outcome ≡ Err NoMemory) × (new ≡ s))
 
-  -- from the old state the text may be the answer to the line, and new the state after it
-  abbrev pub Replies : ScriptState A → Option (List ℕ) → List ℕ → ScriptState A → Type 0
-  Replies old line text new = (outcome : Result Reply Refusal) × IsAnswer (asked_copies line) old (asked line) outcome new × (text ≡ outcome_text outcome)
+  module _ (checkpoints : Checkpointing A) where
+    -- once a line is prepared, the text may be the answer to it, and new the state after it
+    abbrev pub RepliesOf : ScriptState A → Option (List ℕ) → List ℕ → ScriptState A → Type 0
+    RepliesOf old line text new =
+        (outcome : Result Reply Refusal) × IsAnswer (asked_copies line) old (asked (checkpoints.offers old.archive) line) outcome new × (text ≡ outcome_text outcome)
 
-  -- from the first answerer and merge on the text answers all lines up to the one that quits, and that leaves the last ones
-  abbrev pub AnswersLines : ScriptState A → ScriptState A → List (List ℕ) → List ℕ → Type 0
-  AnswersLines first last = AnswersAll first (λ s. s ≡ last) quits Replies
+    -- from the old state the text may be the answer to the line, and new the state after it
+    abbrev pub Replies : ScriptState A → Option (List ℕ) → List ℕ → ScriptState A → Type 0
+    Replies old line text new = (mid : ScriptState A) × Prepares checkpoints old mid × RepliesOf mid line text new
 
-  -- The text answers the first of these lines. That leaves the last answerer and merge, or the next line does, of whose answer
-  -- nothing was written.
-  abbrev pub AnswersFirstLines : ScriptState A → ScriptState A → List (List ℕ) → List ℕ → Type 0
-  AnswersFirstLines first last = AnswersSome first (λ s. s ≡ last) quits Replies
+    -- from the first answerer and merge on the text answers all lines up to the one that quits, and that leaves the last ones
+    abbrev pub AnswersLines : ScriptState A → ScriptState A → List (List ℕ) → List ℕ → Type 0
+    AnswersLines first last = AnswersAll first (λ s. s ≡ last) quits Replies
 
-  -- a line is answered, and what is written of the answer
-  pub record RepliesTo (contents written line : Option (List ℕ)) (old new : ScriptState A) (result : Result (Unit {0}) EarlyEnd) : Type 0 where
-    pub reply : List ℕ
-    pub answers : Replies old line reply new
-    pub told : MatchResult result (λ done. Appends contents written reply) (λ end. FailsToAnswer end contents written)
+    -- The text answers the first of these lines. That leaves the last answerer and merge, or the next line does, of whose answer
+    -- nothing was written.
+    abbrev pub AnswersFirstLines : ScriptState A → ScriptState A → List (List ℕ) → List ℕ → Type 0
+    AnswersFirstLines first last = AnswersSome first (λ s. s ≡ last) quits Replies
+
+    -- a line is answered, and what is written of the answer
+    pub record RepliesTo (contents written line : Option (List ℕ)) (old new : ScriptState A) (result : Result (Unit {0}) EarlyEnd) : Type 0 where
+      pub reply : List ℕ
+      pub answers : Replies old line reply new
+      pub told : MatchResult result (λ done. Appends contents written reply) (λ end. FailsToAnswer end contents written)
 
 -- ---- early ends
 

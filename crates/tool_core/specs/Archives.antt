@@ -27,7 +27,7 @@ use Rattle.tool_core.specs.declared.history.HistoryUse.{HistoryUse}
 use Rattle.tool_core.specs.declared.observer.Beginning.{Beginning}
 use Rattle.tool_core.specs.declared.observer.Beginning.TheVariants as beginnings
 use Rattle.tool_core.specs.declared.state.ScriptState.{ScriptState}
-use Rattle.tool_core.specs.Answering.{AnswersFirstLines, AnswersLines, Ways, begun_with}
+use Rattle.tool_core.specs.Answering.{AnswersFirstLines, AnswersLines, Ways, begun_with, no_checkpoints}
 use Rattle.tool_core.specs.Merging.{Ends}
 
 -- an archive as a script sees it: open, and as its calls see it; or none is open, and this befell the disk
@@ -143,11 +143,11 @@ pub record IsScriptBy (Answer : ScriptState SeenArchive → ScriptState SeenArch
 
 -- the text answers all lines
 abbrev pub IsScript : Life → Life → List (List ℕ) → List ℕ → Type 0
-IsScript = IsScriptBy (AnswersLines archive_ways)
+IsScript = IsScriptBy (AnswersLines archive_ways no_checkpoints)
 
 -- it answers the first of these lines, or one more, of whose answer nothing was written
 abbrev pub IsScriptOfFirst : Life → Life → List (List ℕ) → List ℕ → Type 0
-IsScriptOfFirst = IsScriptBy (AnswersFirstLines archive_ways)
+IsScriptOfFirst = IsScriptBy (AnswersFirstLines archive_ways no_checkpoints)
 
 -- how much of its history an open archive has used
 abbrev pub history_of : SeenArchive → Option HistoryUse

@@ -5,7 +5,9 @@ pub mod Merging
 pub mod Answering
 pub mod Archives
 pub mod ScriptLines
+pub mod Checkpoints
 pub mod Script
+pub mod CheckpointedScript
 pub mod HistoryUse
 -- How a line is put together from parts.
 pub mod Parts

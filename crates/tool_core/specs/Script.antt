@@ -1,6 +1,6 @@
 -- A script's output is the transcript of its lines, and its disk keeps up with it, where the disk obeys the crash model.
 -- docs/CONTROL.md, "Scripts"; docs/STORAGE.md, "Recovery".
-use Rattle.std.specs.Prelude.{◌≡◌, ◌⊎◌, ℕ, ℤ, true, List, Option, Some, None, Result, IsSome, count_by}
+use Rattle.std.specs.Prelude.{◌≡◌, ◌⊎◌, ℕ, ℤ, Bool, true, false, List, Option, Some, None, Result, IsSome, count_by}
 use Rattle.frame_core.specs.declared.refusal.Refusal.{Refusal}
 use Rattle.frame_core.specs.declared.refusal.Refusal.TheVariants.{DeviceFault, NoMemory}
 use Rattle.disk_core.specs.declared.file_id.FileId.{FileId}
@@ -23,9 +23,13 @@ use Rattle.tool_core.specs.Answering.{asked, asked_copies, outcome_text, quits}
 use Rattle.tool_core.specs.ScriptLines.{ReadLineOrWant, is_certain, IsRestart, Scene, Standing, StaysInDoubt, closed, doubtful, opened, refused, reopened, unknown}
 use Rattle.tool_core.specs.Transcript.{AnswersAll, AnswersSome}
 
--- From the old scene the text may be the answer to the line, and new the scene after it.
+-- From the old scene the text may be the answer to the line, and new the scene after it, where checkpoints are offered or not.
+abbrev pub AnswersLineWhere : Bool → Scene → Option (List ℕ) → List ℕ → Scene → Type 0
+AnswersLineWhere offers old line text new = (outcome : Result Reply Refusal) × ReadLineOrWant (asked_copies line) old (asked offers line) outcome new × (text ≡ outcome_text outcome)
+
+-- where they are not
 abbrev pub AnswersLine : Scene → Option (List ℕ) → List ℕ → Scene → Type 0
-AnswersLine old line text new = (outcome : Result Reply Refusal) × ReadLineOrWant (asked_copies line) old (asked line) outcome new × (text ≡ outcome_text outcome)
+AnswersLine = AnswersLineWhere false
 
 -- ---- the disk
 

@@ -2,7 +2,7 @@
 -- docs/CONTROL.md, "Lines"; docs/STORAGE.md, "Recovery".
 use Rattle.std.specs.Prelude.{◌≡◌, ◌⊎◌, ◌+◌, ◌^◌, ◌<◌, ◌≤◌, ℕ, ℤ, pos, Bool, true, false, List, Option, Some, None, Result, Ok, Err, is_none}
 use Rattle.frame_core.specs.declared.refusal.Refusal.{Refusal}
-use Rattle.frame_core.specs.declared.refusal.Refusal.TheVariants.{Broken, DeviceFault, HistoryFull, NoMemory, NotCatalogue}
+use Rattle.frame_core.specs.declared.refusal.Refusal.TheVariants.{BadLine, Broken, DeviceFault, HistoryFull, NoMemory, NotCatalogue}
 use Rattle.disk_core.specs.DiskImage.{DiskImage, MayLeave, reads}
 use Rattle.disk_core.specs.Life.{HasFailed, LeavesOnly, Life}
 use Rattle.archive_model.specs.declared.version.BankVersion.TheVariants.{Two}
@@ -215,6 +215,7 @@ LineEnds s (lines.Block session bytes) outcome t = OfArchive s (WhereOpen (Recor
 LineEnds s lines.Reopen outcome t =
     Reopens s.life (Faulted s t) s.archive outcome t.archive × (t.merge ≡ s.merge) × BanksAgain s.life (is_certain s.archive) s.banks t.archive t.banks
 LineEnds s (lines.Merge line) outcome t = OfMerge s (MergeEnds s.merge line) outcome t
+LineEnds s (lines.Follow fields) outcome t = Stays s (Err BadLine) outcome t
 LineEnds s lines.Quit outcome t = Stays s (Ok Bye) outcome t
 LineEnds s lines.Compact outcome t = Compacts s.life (Faulted s t) s.archive s.banks outcome t.archive t.banks × (t.merge ≡ s.merge)
 

@@ -1,7 +1,9 @@
 //! Who answers the lines of a script: docs/CONTROL.md, "Scripts".
 
-ghost use Rattle.tool_core.specs.Answering.{Records, Ways, WritesBytes};
+ghost use Rattle.std.specs.Prelude.{◌≡◌};
+ghost use Rattle.tool_core.specs.Answering.{Checkpointing, Records, Ways, WritesBytes};
 
+use crate::checkpoints::CheckpointOutcome;
 use crate::history::HistoryUse;
 use archive_model::Reply;
 use control_core::Event;
@@ -12,6 +14,9 @@ use std::alloc::Global;
 pub trait Answerer {
     /// By what terms bytes are read, and what each call may end with.
     ghost ways: { Ways Self };
+
+    /// Whether the line `checkpoint` is one here, and what may be done before each line.
+    ghost checkpoints: { Checkpointing Self };
 
     /// The terms by which the bytes that a recorder session writes are read, as `control_core::read_terms`.
     fn terms(&mut self, session: &i64) -> Result<Geometry, Refusal>
@@ -28,6 +33,14 @@ pub trait Answerer {
     /// Answers the line `compact`.
     fn compact(self, alloc: Global) -> (Self, Result<Reply, Refusal>)
         ensures { ways.compact self result.1 result.0 };
+
+    /// Whether the line `checkpoint` asks for a checkpoint. If not, it is no line.
+    fn offers_checkpoints(&self) -> bool
+        ensures { result ≡ checkpoints.offers self.now };
+
+    /// What is done before a line is answered: a checkpoint, if that is due here. What became of it.
+    fn prepare(&mut self, alloc: Global) -> Option<CheckpointOutcome>
+        ensures { checkpoints.before self.old self.new };
 
     /// How much of its history an archive has used, where the observer of a script is to get it. No answer depends
     /// on it.

@@ -2,10 +2,11 @@
 
 ghost use Rattle.std.specs.Prelude.{◌≡◌, IfErr, IfOk};
 ghost use Rattle.engine_core.specs.Opening.{ReadsAsBefore};
-ghost use Rattle.tool_core.specs.Answering.{ways_seen};
+ghost use Rattle.tool_core.specs.Answering.{checkpointing_seen, no_checkpoints, ways_seen};
 ghost use Rattle.tool_core.specs.Archives.{BeginsAs, archive_seen, archive_ways, closed_by, history_of, life_of};
 
 use crate::answerer::Answerer;
+use crate::checkpoints::CheckpointOutcome;
 use crate::compacting::reopened;
 use crate::history::HistoryUse;
 use crate::observer::Beginning;
@@ -58,6 +59,8 @@ impl<D: Disk> ScriptArchive<D> {
 impl<D: Disk> Answerer for ScriptArchive<D> {
     ghost ways = { ways_seen (archive_seen D.life) archive_ways };
 
+    ghost checkpoints = { checkpointing_seen (archive_seen D.life) no_checkpoints };
+
     fn terms(&mut self, session: &i64) -> Result<Geometry, Refusal> {
         match &*self {
             ScriptArchive::Open(engine) => read_terms(engine.desk(), session),
@@ -90,6 +93,14 @@ impl<D: Disk> Answerer for ScriptArchive<D> {
             ScriptArchive::Open(engine) => reopened(alloc, engine.into_disk()),
             ScriptArchive::Closed(disk) => (ScriptArchive::Closed(disk), Err(Refusal::Broken)),
         }
+    }
+
+    fn offers_checkpoints(&self) -> bool {
+        false
+    }
+
+    fn prepare(&mut self, _alloc: Global) -> Option<CheckpointOutcome> {
+        None
     }
 
     /// How much of its history it has used, where it is open.

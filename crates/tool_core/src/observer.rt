@@ -1,5 +1,6 @@
 //! What an observer gets of a command while it runs, beside what it writes. docs/CONTROL.md, "Standard error".
 
+use crate::checkpoints::CheckpointOutcome;
 use crate::history::HistoryUse;
 use archive_model::{Registration, Reply};
 use frame_core::Refusal;
@@ -23,6 +24,9 @@ pub trait Observer {
     /// What a script's line is answered, before that is written. Of the line come its bytes without its end, and none if it is
     /// too long.
     fn answered(&mut self, _line: Option<&[u8]>, _outcome: &Result<Reply, Refusal>) {}
+
+    /// What became of a checkpoint that was due before a line.
+    fn checkpointed(&mut self, _outcome: &CheckpointOutcome) {}
 
     /// How much of its history a script's archive has used, at its opening and behind each line.
     fn used(&mut self, _history: &HistoryUse) {}

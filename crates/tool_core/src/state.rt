@@ -65,6 +65,8 @@ impl<A: Answerer> ScriptState<A> {
                 record_bytes(alloc, &mut archive, session, bytes.as_slice())
             }
             Line::Merge(line) => answer_merge(alloc, &mut merge, line),
+            // A script has no connection that could be sent frames.
+            Line::Follow(_) => Err(Refusal::BadLine),
             Line::Quit => Ok(Reply::Bye),
         };
         (ScriptState { archive, merge }, outcome)

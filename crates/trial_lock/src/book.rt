@@ -36,6 +36,7 @@ impl Story {
         match event {
             Event::Write { session, block } => self.write(session, block),
             Event::Settle { session } => self.settle(alloc, session),
+            Event::SettleAll { sessions } => self.settle_all(alloc, sessions.as_slice()),
             Event::Ask(request) => self.ask(alloc, request),
             _ => Ok(()),
         }
@@ -67,6 +68,16 @@ impl Story {
         }
     }
 
+    /// Each of these sessions settles. A number that no open session has refuses nothing.
+    fn settle_all(&mut self, alloc: Global, sessions: &[i64]) -> Result<(), Refusal> {
+        for session in sessions {
+            if let Some((recording, blocks)) = self.taken(alloc, *session) {
+                self.append(recording, blocks)?;
+            }
+        }
+        Ok(())
+    }
+
     fn append(&mut self, recording: i64, blocks: Items<Block>) -> Result<(), Refusal> {
         if blocks.is_empty() {
             return Ok(());
@@ -85,14 +96,31 @@ impl Story {
             Request::Extend(fields) => fields.recording,
             _ => -1,
         };
+        let stopped = match &request {
+            Request::Stop { recording, .. } => *recording,
+            _ => -1,
+        };
         let Some(command) = command_of(request) else {
             return Ok(());
         };
         match self.obey(command) {
+            Ok(Reply::Stopped { .. }) => {
+                self.end(alloc, stopped);
+                Ok(())
+            }
             Ok(Reply::Started { recording, .. }) => self.begin(alloc, recording),
             Ok(Reply::Extended { .. }) => self.begin(alloc, extended),
             Ok(_) => Ok(()),
             Err(refusal) => Err(refusal),
+        }
+    }
+
+    /// The sessions of a recording have ended: what they wrote and did not settle is gone.
+    fn end(&mut self, alloc: Global, recording: i64) {
+        for session in self.sessions.as_mut_slice() {
+            if session.recording == recording {
+                session.written = Items::new(alloc);
+            }
         }
     }
 

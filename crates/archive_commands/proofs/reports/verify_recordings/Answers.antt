@@ -5,7 +5,7 @@ use Rattle.tool_core.specs.declared.fault.EarlyEnd.{EarlyEnd}
 use Rattle.tool_core.specs.declared.fault.EarlyEnd.TheVariants as ends
 use Rattle.archive_commands.specs.declared.reports.Verdict.{Verdict}
 use Rattle.archive_commands.specs.declared.reports.Verdict.TheVariants.{Whole, Refused}
-use Rattle.archive_commands.specs.Reports.{HasReportedFirst, InTurnAndOne, ids_in}
+use Rattle.archive_commands.specs.Reports.{HasReportedFirst, InTurnAndOne, ids_asked}
 use Rattle.archive_commands.proofs.ReportLemmas.{HasCome, at_end, at_fault, at_start, begun, next}
 use Rattle.archive_commands.proofs.reports.verify_recordings.Goals as goal
 
@@ -15,12 +15,12 @@ loop-id-init g c = begun g.A.Verifiable.verifies c.args.archive.now c.as_slice-i
 pub returns-in_err-ids-clause-early : goal.returns-in_err-ids-clause-early
 returns-in_err-ids-clause-early g c =
     let failed : c.from_residual.result ≡ Err ends.Memory = search rules in
-    subst (λ (r : Result Verdict EarlyEnd). IfErr r (HasReportedFirst (InTurnAndOne g.A.Verifiable.verifies) (ids_in (g.A.Verifiable.desk_of c.args.archive.now)) c.args.archive.now c.args.archive.now (g.W.Write.contents c.args.writer.now) (g.W.Write.contents c.args.writer.now))) (sym failed)
-    (at_start g.A.Verifiable.verifies c.args.archive.now (ids_in (g.A.Verifiable.desk_of c.args.archive.now)) (g.W.Write.contents c.args.writer.now))
+    subst (λ (r : Result Verdict EarlyEnd). IfErr r (HasReportedFirst (InTurnAndOne g.A.Verifiable.verifies) (ids_asked c.args.asked (g.A.Verifiable.desk_of c.args.archive.now)) c.args.archive.now c.args.archive.now (g.W.Write.contents c.args.writer.now) (g.W.Write.contents c.args.writer.now))) (sym failed)
+    (at_start g.A.Verifiable.verifies c.args.archive.now (ids_asked c.args.asked (g.A.Verifiable.desk_of c.args.archive.now)) (g.W.Write.contents c.args.writer.now))
 
 pub returns-in_err-is_verified-clause-early : goal.returns-in_err-is_verified-clause-early
 returns-in_err-is_verified-clause-early g c =
-    let wanted = ids_in (g.A.Verifiable.desk_of c.args.archive.now) in
+    let wanted = ids_asked c.args.asked (g.A.Verifiable.desk_of c.args.archive.now) in
     let are : c.as_slice-id-items.result.now ≡ wanted = search rules in
     let failed : c.from_residual-in_err-is_verified.result ≡ Err c.in_err-is_verified.field-0.0 = search rules in
     let fault = at_fault g.A.Verifiable.verifies c.args.archive.now c.loop-id.archive c.report.new.archive wanted c.as_slice-id-items.result.now c.loop-id.id-index _ (g.W.Write.contents c.args.writer.now) (g.W.Write.contents c.loop-id.writer) (g.W.Write.contents c.report.new.writer) c.loop-id.is_whole c.in_err-is_verified.field-0.0 are c.loop-id-test.true c.loop-id.invariant c.in_err-is_verified.ensures in
@@ -34,7 +34,7 @@ loop-id-preserved g c =
 
 pub returns-clause-whole : goal.returns-clause-whole
 returns-clause-whole g c =
-    let wanted = ids_in (g.A.Verifiable.desk_of c.args.archive.now) in
+    let wanted = ids_asked c.args.asked (g.A.Verifiable.desk_of c.args.archive.now) in
     let are : c.as_slice-id-items.result.now ≡ wanted = search rules in
     let judged : c.if-is_whole-2.result ≡ (if c.loop-id.is_whole then Whole else Refused) = search rules in
     let all = c.loop-id-test.false in

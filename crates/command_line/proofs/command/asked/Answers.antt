@@ -2,7 +2,7 @@
 use Rattle.std.proofs.Common.{rules, refl, codes}
 use Rattle.std.specs.Str.Parse.{ParsesUnsigned, ExplainsUnsignedError, HasUnsignedDigitsIfOk}
 use Rattle.clap.specs.Words.{found_of}
-use Rattle.command_line.proofs.CommandLineLemmas.{text_given, number_given, number_lacks, lacks_words, no_history, flag_given}
+use Rattle.command_line.proofs.CommandLineLemmas.{text_given, number_given, number_lacks, lacks_words, no_history, flag_given, number_if}
 use Rattle.command_line.proofs.command.asked.Goals as goal
 
 pub returns-in_err-get_str-in-create : goal.returns-in_err-get_str-in-create
@@ -26,7 +26,15 @@ returns-in_ok-get_one-in-create c = record {
 }
 
 pub returns-in-run : goal.returns-in-run
-returns-in-run c = record { named = search rules; words = text_given (found_of c.args.own.now) (codes "folder") _ _ c.get_str-in-run.ensures refl }
+returns-in-run c = record {
+  named = search rules;
+  words = (
+    text_given (found_of c.args.own.now) (codes "folder") _ _ c.get_str-in-run.ensures refl,
+    flag_given (found_of c.args.own.now) (codes "checkpoints") _ c.get_flag.ensures.none c.get_flag.ensures.value c.get_flag.ensures.other,
+    number_if (λ text x. ParsesUnsigned 32 10 text x × ExplainsUnsignedError 10 text x × HasUnsignedDigitsIfOk text x) (λ text x read. read.0)
+        (found_of c.args.own.now) (codes "wait") _ c.get_one-in-run.ensures.none c.get_one-in-run.ensures.value,
+  );
+}
 
 pub returns-in_err-get_str-in-compact : goal.returns-in_err-get_str-in-compact
 returns-in_err-get_str-in-compact c = rw c.from_residual-in_err-get_str-in-compact.ensures
@@ -35,7 +43,11 @@ returns-in_err-get_str-in-compact c = rw c.from_residual-in_err-get_str-in-compa
 pub returns-in_ok-get_str-in-compact : goal.returns-in_ok-get_str-in-compact
 returns-in_ok-get_str-in-compact c = record {
   named = search rules;
-  words = text_given (found_of c.args.own.now) (codes "folder") _ _ c.get_str-in-compact.ensures c.in_ok-get_str-in-compact.was;
+  words = (
+    text_given (found_of c.args.own.now) (codes "folder") _ _ c.get_str-in-compact.ensures c.in_ok-get_str-in-compact.was,
+    number_if (λ text x. ParsesUnsigned 32 10 text x × ExplainsUnsignedError 10 text x × HasUnsignedDigitsIfOk text x) (λ text x read. read.0)
+        (found_of c.args.own.now) (codes "wait") _ c.get_one-in-compact.ensures.none c.get_one-in-compact.ensures.value,
+  );
 }
 
 pub returns-in_err-get_str-in-list : goal.returns-in_err-get_str-in-list
@@ -47,20 +59,9 @@ returns-in_ok-get_str-in-list c = record {
   named = search rules;
   words = (
     text_given (found_of c.args.own.now) (codes "folder") _ _ c.get_str-in-list.ensures c.in_ok-get_str-in-list.was,
-    flag_given (found_of c.args.own.now) (codes "read-only") _ c.get_flag.ensures.none c.get_flag.ensures.value c.get_flag.ensures.other,
-  );
-}
-
-pub returns-in_err-get_str-in-verify : goal.returns-in_err-get_str-in-verify
-returns-in_err-get_str-in-verify c = rw c.from_residual-in_err-get_str-in-verify.ensures
-    (lacks_words (codes "verify") _ _ (search rules) (λ holds. holds (text_given (found_of c.args.own.now) (codes "folder") _ _ c.get_str-in-verify.ensures c.in_err-get_str-in-verify.was)))
-
-pub returns-in_ok-get_str-in-verify : goal.returns-in_ok-get_str-in-verify
-returns-in_ok-get_str-in-verify c = record {
-  named = search rules;
-  words = (
-    text_given (found_of c.args.own.now) (codes "folder") _ _ c.get_str-in-verify.ensures c.in_ok-get_str-in-verify.was,
-    flag_given (found_of c.args.own.now) (codes "read-only") _ c.get_flag-in-verify.ensures.none c.get_flag-in-verify.ensures.value c.get_flag-in-verify.ensures.other,
+    flag_given (found_of c.args.own.now) (codes "read-only") _ c.get_flag-in-list.ensures.none c.get_flag-in-list.ensures.value c.get_flag-in-list.ensures.other,
+    number_if (λ text x. ParsesUnsigned 32 10 text x × ExplainsUnsignedError 10 text x × HasUnsignedDigitsIfOk text x) (λ text x read. read.0)
+        (found_of c.args.own.now) (codes "wait") _ c.get_one-in-list.ensures.none c.get_one-in-list.ensures.value,
   );
 }
 
@@ -72,17 +73,4 @@ pub returns-in_ok-get_str-in-frames : goal.returns-in_ok-get_str-in-frames
 returns-in_ok-get_str-in-frames c = record {
   named = search rules;
   words = text_given (found_of c.args.own.now) (codes "file") _ _ c.get_str-in-frames.ensures c.in_ok-get_str-in-frames.was;
-}
-
-pub returns-in_err-get_str-in-describe : goal.returns-in_err-get_str-in-describe
-returns-in_err-get_str-in-describe c = rw c.from_residual-in_err-get_str-in-describe.ensures
-    (lacks_words (codes "describe") _ _ (search rules) (λ holds. holds (text_given (found_of c.args.own.now) (codes "folder") _ _ c.get_str-in-describe.ensures c.in_err-get_str-in-describe.was)))
-
-pub returns-in_ok-get_str-in-describe : goal.returns-in_ok-get_str-in-describe
-returns-in_ok-get_str-in-describe c = record {
-  named = search rules;
-  words = (
-    text_given (found_of c.args.own.now) (codes "folder") _ _ c.get_str-in-describe.ensures c.in_ok-get_str-in-describe.was,
-    flag_given (found_of c.args.own.now) (codes "json") _ c.get_flag-in-describe.ensures.none c.get_flag-in-describe.ensures.value c.get_flag-in-describe.ensures.other,
-  );
 }

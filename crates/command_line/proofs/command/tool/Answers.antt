@@ -15,4 +15,4 @@ returns c =
     (adds_one _ _ _ _ _ c.in_ok-tool-3.ensures
     (adds_one _ _ _ _ _ c.in_ok-tool-2.ensures
     (adds_one _ _ _ _ _ c.in_ok-tool.ensures c.named.ensures c.create.ensures) c.run.ensures) c.list.ensures)
-    c.verify.ensures) c.frames.ensures) c.describe.ensures) c.serve.ensures) c.compact.ensures) c.export.ensures) c.ask.ensures) c.with-10.ensures
+    c.verify.ensures) c.frames.ensures) c.describe.ensures) c.serve_consumers.ensures) c.compact.ensures) c.export.ensures) c.ask.ensures) c.with-10.ensures

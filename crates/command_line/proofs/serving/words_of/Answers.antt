@@ -58,10 +58,20 @@ returns c = record {
       (found_of c.args.own.now) (codes "window") _ c.get_one-window.ensures.none c.get_one-window.ensures.value;
   clients_is = number_if (λ text x. ParsesUnsigned 32 10 text x × ExplainsUnsignedError 10 text x × HasUnsignedDigitsIfOk text x) (λ text x read. read.0)
       (found_of c.args.own.now) (codes "clients") _ c.get_one-clients.ensures.none c.get_one-clients.ensures.value;
+  consumers_is = number_if (λ text x. ParsesUnsigned 32 10 text x × ExplainsUnsignedError 10 text x × HasUnsignedDigitsIfOk text x) (λ text x read. read.0)
+      (found_of c.args.own.now) (codes "consumers") _ c.get_one-consumers.ensures.none c.get_one-consumers.ensures.value;
+  consumers_on_is = text_given (found_of c.args.own.now) (codes "consumers-on") _ _ c.get_str-consumers_on.ensures refl;
   streams_are = c.requires;
   segment_is = number_if (λ text x. ParsesUnsigned 32 10 text x × ExplainsUnsignedError 10 text x × HasUnsignedDigitsIfOk text x) (λ text x read. read.0)
       (found_of c.args.own.now) (codes "segment-length") _ c.get_one-segment_length.ensures.none c.get_one-segment_length.ensures.value;
   quiet_is = flag_given (found_of c.args.own.now) (codes "quiet") _ c.get_flag-is_quiet.ensures.none c.get_flag-is_quiet.ensures.value c.get_flag-is_quiet.ensures.other;
   strict_is = flag_given (found_of c.args.own.now) (codes "strict") _ c.get_flag-is_strict.ensures.none c.get_flag-is_strict.ensures.value c.get_flag-is_strict.ensures.other;
   metrics_is = text_given (found_of c.args.own.now) (codes "metrics") _ _ c.get_str-metrics.ensures refl;
+  checkpoints_is = flag_given (found_of c.args.own.now) (codes "checkpoints") _ c.get_flag-checkpoints.ensures.none c.get_flag-checkpoints.ensures.value c.get_flag-checkpoints.ensures.other;
+  no_checkpoints_is = flag_given (found_of c.args.own.now) (codes "no-checkpoints") _ c.get_flag-no_checkpoints.ensures.none c.get_flag-no_checkpoints.ensures.value c.get_flag-no_checkpoints.ensures.other;
+  name_is = text_given (found_of c.args.own.now) (codes "name") _ _ c.get_str-name.ensures refl;
+  times_are = flag_given (found_of c.args.own.now) (codes "log-times") _ c.get_flag-logs_times.ensures.none c.get_flag-logs_times.ensures.value c.get_flag-logs_times.ensures.other;
+  no_create_is = flag_given (found_of c.args.own.now) (codes "no-create") _ c.get_flag-no_create.ensures.none c.get_flag-no_create.ensures.value c.get_flag-no_create.ensures.other;
+  wait_is = number_if (λ text x. ParsesUnsigned 32 10 text x × ExplainsUnsignedError 10 text x × HasUnsignedDigitsIfOk text x) (λ text x read. read.0)
+      (found_of c.args.own.now) (codes "wait") _ c.get_one-wait.ensures.none c.get_one-wait.ensures.value;
 }

@@ -8,6 +8,6 @@ use Rattle.folder_commands.proofs.commands.run.Goals as goal
 
 pub returns : goal.returns
 returns g c =
-    let begins = begins_watched g.given c.in_ok-disk_of.field-0 c.new-disk.result c.in_ok-disk_of.ensures.begun c.new-disk.ensures in
-    run_ends g.given (g.I.Read.remaining c.args.input) (g.W.Write.contents c.args.writer.now) (g.W.Write.contents c.run_over-disk.new.writer)
+    let begins = begins_watched g.given c.in_ok-disk_within.field-0 c.new-disk.result c.in_ok-disk_within.ensures.begun c.new-disk.ensures in
+    run_ends c.args.checkpoints g.given (g.I.Read.remaining c.args.input) (g.W.Write.contents c.args.writer.now) (g.W.Write.contents c.run_over-disk.new.writer)
     (leaves c.leaving.result) _ _ (ending_in c.run_over-disk.result.1) (ends_with c.leaving.result) begins (c.leaving.ensures.left ∙ c.closed.ensures) c.leaving.ensures.ending c.run_over-disk.ensures

@@ -1,7 +1,7 @@
 use Rattle.folder_commands.proofs.verifying.verify_opened.Given as goal
 
-abbrev pub ghost-disk_of : goal.ghost-disk_of
-ghost-disk_of g a = g.given
+abbrev pub ghost-disk_within : goal.ghost-disk_within
+ghost-disk_within g a = g.given
 
 abbrev pub ghost-warns_of_hidden : goal.ghost-warns_of_hidden
 ghost-warns_of_hidden g a = g.given

@@ -5,4 +5,4 @@ use Rattle.metrics_text.specs.MetricsText.{image_metric_line}
 use Rattle.metrics_text.proofs.print.put_image_lines.Given as goal
 
 abbrev pub invariant-loop-image : goal.invariant-loop-image
-invariant-loop-image l = string_bytes l.out ≡ string_bytes l.fn.out ++ flat_map (image_metric_line l.family) (take l.image-index l.images)
+invariant-loop-image l = string_bytes l.out ≡ string_bytes l.fn.out ++ flat_map (image_metric_line l.who l.family) (take l.image-index l.images)

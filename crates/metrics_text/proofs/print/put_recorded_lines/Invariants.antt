@@ -5,4 +5,4 @@ use Rattle.metrics_text.specs.MetricsText.{recorded_line}
 use Rattle.metrics_text.proofs.print.put_recorded_lines.Given as goal
 
 abbrev pub invariant-loop-recording : goal.invariant-loop-recording
-invariant-loop-recording l = string_bytes l.out ≡ string_bytes l.fn.out ++ flat_map recorded_line (take l.recording-index l.recordings)
+invariant-loop-recording l = string_bytes l.out ≡ string_bytes l.fn.out ++ flat_map (recorded_line l.who) (take l.recording-index l.recordings)

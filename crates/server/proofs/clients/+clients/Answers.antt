@@ -27,7 +27,7 @@ serve_beside-scope-returns g t c =
     let new = c.match-serving.pass in
     let back : IsBack old new = elim c.match-serving.branch [
       | serve_beside-scope-in-Ok w ↦ back_moved w.in-Ok.thread.promise.pass.value old w.join-pass.result new ((λ i. (ok_part _ c.spawn_with-serving.result w.in-Ok.thread w.in-Ok.is c.spawn_with-serving.ensures.ok i).pass.value) ∙ c.of.ensures) w.pass-is w.join-pass.ensures
-      | serve_beside-scope-in-Err w ↦ back_moved w.in-Err.refused.value.3 old w.spawn_with-pass.result new (λ i. (err_part _ c.spawn_with-serving.result w.in-Err.refused w.in-Err.is c.spawn_with-serving.ensures.err i).3) w.pass-is w.spawn_with-pass.ensures
+      | serve_beside-scope-in-Err w ↦ back_moved w.in-Err.refused.value.5 old w.spawn_with-pass.result new (λ i. (err_part _ c.spawn_with-serving.result w.in-Err.refused w.in-Err.is c.spawn_with-serving.ensures.err i).5) w.pass-is w.spawn_with-pass.ensures
     ] in
     record {
       back = subst (λ (ps : List (PassView Made)). AreBack (c.captures.rest.items ++ old ∷ []) ps) (sym c.push_reserved.ensures.items) (back_more c.captures.rest.items _ old new c.serve_clients-passes.ensures.back back);

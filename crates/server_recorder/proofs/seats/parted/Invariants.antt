@@ -8,7 +8,7 @@ use Rattle.server_recorder.proofs.seats.parted.Given as goal
 abbrev pub invariant-loop-passes : goal.invariant-loop-passes
 invariant-loop-passes g l = record {
   passes : l.passes.items ≡ new_passes g.A.Naming.table (vec_len l.passes);
-  some : 64 ≤ vec_len l.passes;
+  some : 1 ≤ vec_len l.passes;
   clients : AllOfTable g.A.Naming.table l.room.items;
   each : HasNumbersFrom (vec_len l.passes) g.A.Naming.passes l.room.items;
   count : vec_len l.passes + vec_len l.room ≡ g.A.Naming.passes;

@@ -7,4 +7,4 @@ use Rattle.tool_core.proofs.script.outcome_of.Goals as goal
 pub returns-then-eq-clause-answer : goal.returns-then-eq-clause-answer
 returns-then-eq-clause-answer g c =
     let quit : quits c.args.line.now ≡ true = search rules in
-    quits_answered g.A.Answerer.ways c.args.line.now c.args.state quit
+    quits_answered g.A.Answerer.ways (g.A.Answerer.checkpoints.offers c.args.state.archive) c.args.line.now c.args.state quit

@@ -1,0 +1,198 @@
+//! Sessions that are due, which settle together, and whose segment files are flushed before. docs/SERVING.md, "When a frame is
+//! durable".
+
+use crate::checkpoints::keep_short;
+use crate::flushing::Flushing;
+use crate::recording::{Recording, note_settled, note_time, settle};
+use crate::seats::Seats;
+use crate::settling::Settling;
+use archive_lock::Naming;
+use disk_core::Disk;
+use frame_core::Refusal;
+use server_state::{Reporter, Stopwatch, Taken};
+use std::alloc::Global;
+use std::rt::Clock;
+use std::sync::Wait;
+use stream_pairs::{FED_SESSIONS, Seat};
+
+/// Syncs of the disk beside those of the segment files.
+const BANK_SYNCS: usize = 2;
+
+/// Settles each session that is due now; all of them if no more blocks come. One that is due alone settles by itself. Where there
+/// are several they settle together, with those that have waited for at least half as long as a block may; where nothing was done
+/// by that, each settles by itself.
+pub(crate) fn settle_due<D: Disk, A: Naming, R: Wait + Clock, T: Reporter>(
+    with: &Recording<'_, D, A, R, T>,
+    seats: &mut Seats<A>,
+    settling: &mut Settling,
+    taken: &Taken,
+    flushing: &Flushing,
+) {
+    let mut due = due_seats(settling, with.shared.queue.has_block(with.rt), taken);
+    if count(&due) > 1 {
+        add_near(settling, &mut due);
+        if let Some(group) = seats_of(with.alloc, &due) {
+            if settle_group(with, seats, settling, group.as_slice(), flushing) {
+                return;
+            }
+        }
+    }
+    for seat in 0..FED_SESSIONS {
+        if due[seat] {
+            let _ = settle(with, seats, settling, seat);
+        }
+    }
+}
+
+/// Of each seat whether its session is due.
+fn due_seats(settling: &Settling, block_waits: bool, taken: &Taken) -> [bool; FED_SESSIONS] {
+    let mut due = [false; FED_SESSIONS];
+    for seat in 0..FED_SESSIONS {
+        let is_asked = taken.is_over || taken.asked[seat];
+        due[seat] = settling.is_due(seat, block_waits, is_asked);
+    }
+    due
+}
+
+/// Adds the sessions that are near to be due.
+fn add_near(settling: &Settling, due: &mut [bool; FED_SESSIONS]) {
+    for seat in 0..FED_SESSIONS {
+        if settling.is_half_due(seat) {
+            due[seat] = true;
+        }
+    }
+}
+
+/// How many seats there are.
+fn count(seats: &[bool; FED_SESSIONS]) -> usize {
+    let mut count: usize = 0;
+    for seat in 0..FED_SESSIONS {
+        if seats[seat] {
+            count = count.saturating_add(1);
+        }
+    }
+    count
+}
+
+/// The numbers of seats. None if there is no memory for them.
+fn seats_of(alloc: Global, seats: &[bool; FED_SESSIONS]) -> Option<Vec<Seat>> {
+    let mut numbers = Vec::with_capacity(alloc, FED_SESSIONS).ok()?;
+    for seat in 0..FED_SESSIONS {
+        if seats[seat] {
+            numbers.push(seat).ok()?;
+        }
+    }
+    Some(numbers)
+}
+
+/// Settles the sessions of several seats together. Whether that was done, or failed in a way that leaves each of them refused: a
+/// refusal for want of room or of memory is none, since one session alone may need less.
+fn settle_group<D: Disk, A: Naming, R: Wait + Clock, T: Reporter>(
+    with: &Recording<'_, D, A, R, T>,
+    seats: &mut Seats<A>,
+    settling: &mut Settling,
+    group: &[Seat],
+    flushing: &Flushing,
+) -> bool {
+    for seat in group {
+        if let Some(written) = settling.written(*seat) {
+            seats.set_session(*seat, written.session);
+        }
+    }
+    let is_flushed = flush(with, seats, settling, group, flushing);
+    let watch = Stopwatch::new(with.rt);
+    let (answer, standing) = seats.settle_all(with.rt, with.alloc, with.archive, group);
+    let is_done = match answer {
+        Ok(positions) => {
+            let syncs = if is_flushed {
+                0
+            } else {
+                group.len().saturating_add(BANK_SYNCS)
+            };
+            note_time(with, settling, &watch, syncs);
+            note_group(with, settling, group, positions.as_slice());
+            true
+        }
+        Err(Refusal::DeviceFault) => {
+            refuse_group(with, settling, group);
+            true
+        }
+        Err(_) => false,
+    };
+    if let Some(standing) = standing {
+        keep_short(with, seats, &standing);
+    }
+    is_done
+}
+
+/// The sessions of several seats settled, and each is recorded up to its own position. One that was stopped before has none.
+fn note_group<D: Disk, A: Naming, R: Wait + Clock, T: Reporter>(
+    with: &Recording<'_, D, A, R, T>,
+    settling: &mut Settling,
+    group: &[Seat],
+    positions: &[Option<i64>],
+) {
+    for (seat, position) in group.iter().zip(positions) {
+        if let Some(written) = settling.take(*seat) {
+            match position {
+                Some(position) => note_settled(with, &written, *position),
+                None => {
+                    with.shared
+                        .refused(with.rt, written.session, Refusal::StaleSession);
+                }
+            }
+        }
+    }
+}
+
+/// The disk failed what the sessions of several seats were to settle: each loses its image.
+fn refuse_group<D: Disk, A: Naming, R: Wait + Clock, T: Reporter>(
+    with: &Recording<'_, D, A, R, T>,
+    settling: &mut Settling,
+    group: &[Seat],
+) {
+    for seat in group {
+        if let Some(written) = settling.take(*seat) {
+            with.shared
+                .refused(with.rt, written.session, Refusal::DeviceFault);
+        }
+    }
+}
+
+/// Flushes the segment files of sessions that are to settle, if syncs are slow. Without memory nothing is flushed. What a flush
+/// answers is not looked at: the settling syncs the same files. Whether files were flushed.
+fn flush<D: Disk, A: Naming, R: Wait + Clock, T: Reporter>(
+    with: &Recording<'_, D, A, R, T>,
+    seats: &mut Seats<A>,
+    settling: &mut Settling,
+    group: &[Seat],
+    flushing: &Flushing,
+) -> bool {
+    if !settling.is_slow() || !flushing.works() {
+        return false;
+    }
+    let Some(sessions) = sessions_of(with.alloc, settling, group) else {
+        return false;
+    };
+    let files = seats.unsettled_segments(with.rt, with.alloc, with.archive, sessions.as_slice());
+    let Ok(files) = files else {
+        return false;
+    };
+    let watch = Stopwatch::new(with.rt);
+    let rounds = flushing.flush(with.rt, files);
+    if let Some(micros) = watch.micros(with.rt) {
+        settling.note_syncs(micros, rounds);
+    }
+    rounds > 0
+}
+
+/// The numbers of the sessions at some seats, as far as they wrote something. None if there is no memory for them.
+fn sessions_of(alloc: Global, settling: &Settling, seats: &[Seat]) -> Option<Vec<i64>> {
+    let mut sessions = Vec::with_capacity(alloc, FED_SESSIONS).ok()?;
+    for seat in seats {
+        if let Some(written) = settling.written(*seat) {
+            sessions.push(written.session).ok()?;
+        }
+    }
+    Some(sessions)
+}
