@@ -6,6 +6,8 @@ Usage: trials/checkpoints.py [--seed S] [--only TRIAL] [--scripts N] [--looks N]
 - answers: so many random scripts, whose replies are those of `readers/`, which knows no checkpoint. Each runs twice by
   `run --checkpoints`: with a line `checkpoint` behind each line, and over a history of 16 entries, of which half is used again and
   again. All that is answered beside `checkpointed` has to be the same. Then the folder is looked at, with and without an opening.
+- many: 64 active recordings, with blocks that are written and not settled, open replays, and truncations and extensions between two
+  checkpoints. All that is answered beside `checkpointed` is what `readers/` answers.
 - looks: next to a process that records by `run --checkpoints` over a history of 64 entries, `list --read-only`, `describe`, `verify
   --read-only` and `export` look at the folder, so many times. What each shows is one moment: recordings end where a settle ended, no
   sooner than what was answered before the look began. Only a `verify` may find damage, and then it says that the archive has moved.
@@ -19,7 +21,7 @@ from pathlib import Path
 from random import Random
 
 from lib import random_lines
-from lib.comparison import Script, ended
+from lib.comparison import Script, ended, told_by
 from lib.tool import Fault, Session, Stream, conclude, expect, program, room, run, run_trials, trial_words
 from readers.archive import Archive
 from readers.catalogue import NEWEST, Register
@@ -43,12 +45,9 @@ def script_of(chance: Random) -> Script:
     return script
 
 
-def told_by(tool: Path, folder: Path, lines: list[str]) -> list[str]:
+def beside_checkpoints(tool: Path, folder: Path, lines: list[str]) -> list[str]:
     """What a script that makes checkpoints answers beside `checkpointed`."""
-    given = "".join(f"{line}\n" for line in lines).encode()
-    done = ended(tool, "run", folder, "--checkpoints", given=given)
-    expect("status of run", done.returncode, 0)
-    return [line for line in done.stdout.decode().splitlines() if line != "checkpointed"]
+    return [line for line in told_by(tool, folder, lines, "--checkpoints") if line != "checkpointed"]
 
 
 def try_answers(tool: Path, chance: Random, count: int) -> None:
@@ -61,10 +60,10 @@ def try_answers(tool: Path, chance: Random, count: int) -> None:
         with room() as path:
             each = path / "each"
             each.mkdir()
-            expect(f"script {number}, a checkpoint behind each line", told_by(tool, each, [word for line in asked for word in (line, "checkpoint")]), right)
+            expect(f"script {number}, a checkpoint behind each line", beside_checkpoints(tool, each, [word for line in asked for word in (line, "checkpoint")]), right)
             short = path / "short"
             run([tool, "create", short, "--history", str(SHORT)])
-            expect(f"script {number}, a short history", told_by(tool, short, asked), right)
+            expect(f"script {number}, a short history", beside_checkpoints(tool, short, asked), right)
             seen = run([tool, "list", short, "--read-only"])
             expect(f"script {number}, a look", seen, run([tool, "list", each, "--read-only"]))
             expect(f"script {number}, an opening", run([tool, "list", short]), run([tool, "list", each]))
@@ -72,6 +71,58 @@ def try_answers(tool: Path, chance: Random, count: int) -> None:
             expect(f"script {number}, entries that are used", known["history_entries"] <= SHORT, True)
         lines, checkpoints = lines + len(asked), checkpoints + len(asked)
     print(f"{count} scripts, {lines} lines and as many checkpoints behind them; the same over a history of {SHORT} entries")
+
+
+def many_script() -> Script:
+    """Lines over as many active recordings as may be, with their replies, and a checkpoint where nothing is settled and where all is."""
+    script, most = Script(Archive({}, Register(NEWEST))), 64
+
+    def blocks(word: str, numbers: range, position: int) -> None:
+        for number in numbers:
+            script.ask(f"{word} {number} {STREAM.message(position, position.to_bytes(8, 'little')).hex()}")
+
+    for number in range(most):
+        script.ask(STREAM.start(f"c{number}"))
+    blocks("block", range(most), 0)
+    for number in range(most - 4):
+        script.ask(f"replay {number} 0 -1")
+    blocks("write", range(most), 64)
+    script.checkpoint()
+    for number in range(most):
+        script.ask(f"positions {number}")
+    blocks("write", range(0, most, 2), 128)
+    for number in range(most):
+        script.ask(f"settle {number}")
+    for number in range(most - 4):
+        script.ask(f"poll {number} 1")
+    script.checkpoint()
+    for number in range(most - 4):
+        script.ask(f"poll {number} 4096")
+    for number in range(most - 4, most):
+        script.ask(f"stop {number} 2000")
+        script.ask(f"truncate {number} 64")
+    script.checkpoint()
+    for number in range(most - 4, most):
+        script.ask(STREAM.extend(number, 64))
+    script.checkpoint()
+    blocks("block", range(most, most + 4), 64)
+    script.ask("list 0 1024")
+    for number in range(most):
+        script.ask(f"verify {number}")
+    script.checkpoint()
+    return script
+
+
+def try_many(tool: Path) -> None:
+    """Checkpoints over as many active recordings as may be."""
+    with room() as path:
+        script = many_script()
+        script.try_on(tool, path, "64 active recordings", "--checkpoints")
+        listed = run([tool, "list", path])
+        expect("an opening", [line for line in listed if line.startswith("end ")], ["end 64"])
+        known = json.loads("".join(run([tool, "describe", path, "--json"])))
+        expect("entries that are used", known["history_entries"], 64)
+    print(f"64 active recordings: {len(script.asked)} lines, five checkpoints between them")
 
 
 class Writer(threading.Thread):
@@ -159,13 +210,18 @@ def try_looks(tool: Path, count: int) -> None:
 
 def main() -> int:
     words = trial_words(__doc__)
-    words.add_argument("--only", choices=("answers", "looks"))
+    words.add_argument("--only", choices=("answers", "many", "looks"))
     words.add_argument("--scripts", type=int, default=1_000)
     words.add_argument("--looks", type=int, default=400)
     asked = words.parse_args()
     tool, chance = program(asked.program), Random(asked.seed)
     print(f"seed {asked.seed}", flush=True)
-    run_trials({"answers": lambda: try_answers(tool, chance, asked.scripts), "looks": lambda: try_looks(tool, asked.looks)}, asked.only)
+    trials = {
+        "answers": lambda: try_answers(tool, chance, asked.scripts),
+        "many": lambda: try_many(tool),
+        "looks": lambda: try_looks(tool, asked.looks),
+    }
+    run_trials(trials, asked.only)
     return 0
 
 

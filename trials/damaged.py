@@ -37,7 +37,7 @@ PART = 10  # folders that one worker tries in turn
 
 
 def made(tool: Path, folder: Path, chance: Random, is_active: bool) -> Archive:
-    """An archive that the program made, as the reader sees it. A recording of it is active, or none is."""
+    """An archive that the program made, as the reader sees it. A recording of it is active, or none is. Every other one ends by a checkpoint."""
     archive = Archive({}, Register(NEWEST))
     script = Script(archive)
     for _ in range(STEPS):
@@ -49,7 +49,9 @@ def made(tool: Path, folder: Path, chance: Random, is_active: bool) -> Archive:
         script.ask(random_lines.start(chance))
         for line in random_lines.blocks(archive, archive.next_session - 1, chance):
             script.ask(line)
-    script.try_on(tool, folder, "a whole archive")
+    if chance.random() < 0.5:
+        script.checkpoint()
+    script.try_on(tool, folder, "a whole archive", "--checkpoints")
     return archive
 
 

@@ -4,7 +4,7 @@
 1. Banks: the bank that docs/STORAGE.md shows byte for byte, cut to each length, with each bit turned, and each byte set to some values.
 2. Folders: the files of an archive that random lines made, mutated: bits, header fields, cuts, growth by zeros and by random bytes, blocks
    copied and swapped inside a file, entries swapped, doubled, removed and changed, files swapped, removed, added and taken from another
-   archive.
+   archive. Every other archive ends by a checkpoint; some have one that was not finished.
 3. Lines: rows of the table of docs/CONTROL.md, mostly malformed, and first each word of each row bent alone. The reply has to be BadLine
    exactly if `readers/lines.py` finds no form. Any other reply has to have the form of its row.
 4. Datagrams: blocks of a recording, mostly mutated, by `write`, `block`, `merge-live` and `merge-replay`.
@@ -188,6 +188,11 @@ def has_archive(files: Files) -> bool:
     return any(name in BANKS or segment_of(name) for name in files)
 
 
+def unfinished(bank: bytes, chance: Random) -> bytes:
+    """A bank as a compaction or a checkpoint may leave it that stopped before its gate was opened."""
+    return b"\x00" + bank[1 : chance.randint(1, len(bank))]
+
+
 def mutated(files: Files, others: Files, chance: Random) -> Files:
     """The files of an archive, some of them mutated or taken from another archive."""
     before, files, in_use = files, dict(files), read_banks(files.get).bank
@@ -197,6 +202,8 @@ def mutated(files: Files, others: Files, chance: Random) -> Files:
             files[name] = chance.choice((others.get(name, b""), files.get(name, b""), others[chance.choice(sorted(others))]))
         if chance.random() < 0.1:
             files[chance.choice(NEW_NAMES)] = b"x" * 40
+        if chance.random() < 0.1:
+            files[in_use] = unfinished(files[in_use], chance)
         if chance.random() < 0.6:
             damage(files, sorted(files), chance, MUTATIONS)
         else:

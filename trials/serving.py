@@ -1,7 +1,7 @@
 #!/usr/bin/env python3
 """The served archive over sockets: conversations, losses, kills, hostile senders and clients, floods.
 
-Usage: trials/serving.py [--seed S] [--only TRIAL] [--frames N] [--kills N] [--datagrams N] [--connections N] [program]
+Usage: trials/serving.py [--seed S] [--only TRIAL] [--frames N] [--kills N] [--history N] [--datagrams N] [--connections N] [program]
 
 Each trial starts `serve` over a folder of its own, sends it streams by UDP and control lines by TCP, and looks afterwards at
 what the folder holds, by `list`, `verify` and replays of the same program. A sender that loses, doubles and swaps one datagram
@@ -422,8 +422,8 @@ def write_capture(path: Path, datagrams: list[bytes]) -> None:
 class Killed:
     """A server that is killed again and again while streams go on, and what it answered."""
 
-    def __init__(self, tool: Path, archive: Path, chance: random.Random) -> None:
-        self.tool, self.archive, self.chance = tool, archive, chance
+    def __init__(self, tool: Path, archive: Path, chance: random.Random, options: list[str]) -> None:
+        self.tool, self.archive, self.chance, self.options = tool, archive, chance, options
         self.answered: dict[int, int] = {}  # by recording: the largest position that was answered
         self.sent: dict[int, Publication] = {}
         self.answers = 0
@@ -434,7 +434,7 @@ class Killed:
 
     def round(self, how: int) -> None:
         """A server that records one stream from datagrams and one from a client's blocks, until it is killed."""
-        server = Server(self.tool, self.archive)
+        server = Server(self.tool, self.archive, *self.options)
         client = server.client()
         fed = int(next(iter(client.ask(start_line(SESSION_ID)))).split()[1])
         own = int(next(iter(client.ask(start_line(SESSION_ID + 1)))).split()[1])
@@ -470,17 +470,18 @@ class Killed:
         self.answered = {}
 
 
-def killed(tool: Path, chance: random.Random, kills: int) -> None:
-    """Kills a server so often under load, a tenth of the times by SIGTERM."""
+def killed(tool: Path, chance: random.Random, kills: int, history: int) -> None:
+    """Kills a server so often under load, a tenth of the times by SIGTERM. It makes checkpoints if a history is given."""
+    new = ["--history", str(history or 16_777_216)]
     with room() as folder:
         archive = folder / "archive"
-        run([tool, "create", archive, "--history", "16777216"])
+        run([tool, "create", archive, *new])
         answers = 0
         for index in range(kills):
             if index and index % 400 == 0:
                 shutil.rmtree(archive)
-                run([tool, "create", archive, "--history", "16777216"])
-            killer = Killed(tool, archive, chance)
+                run([tool, "create", archive, *new])
+            killer = Killed(tool, archive, chance, ["--checkpoints"] if history else [])
             try:
                 killer.round(signal.SIGTERM if index % 10 == 9 else signal.SIGKILL)
             except Fault as fault:
@@ -597,6 +598,7 @@ def main() -> int:
     words = trial_words(__doc__)
     words.add_argument("--frames", type=int, default=10**6)
     words.add_argument("--kills", type=int, default=200)
+    words.add_argument("--history", type=int, default=0, help="entries of the history that is made short while servers are killed")
     words.add_argument("--datagrams", type=int, default=10**6)
     words.add_argument("--connections", type=int, default=10**4)
     words.add_argument("--only", help="one trial alone, by its name")
@@ -612,7 +614,7 @@ def main() -> int:
         "clients": lambda: slow_clients(tool),
         "flood": lambda: flooded(tool),
         "dissector": lambda: read_by_wireshark(tool, chance),
-        "kills": lambda: killed(tool, chance, asked.kills),
+        "kills": lambda: killed(tool, chance, asked.kills, asked.history),
         "hostile": lambda: hostile(tool, chance, asked.datagrams, asked.connections),
         "losses": lambda: lossy(tool, chance, asked.frames),
     }

@@ -1,7 +1,7 @@
 #!/usr/bin/env python3
 """One server through as many publications, and as many clients that die, as a year may bring.
 
-Usage: trials/year.py [--seed S] [--only TRIAL] [--publications N] [--clients N] [--silent N] [--times N] [--memory MB] [program]
+Usage: trials/year.py [--seed S] [--only TRIAL] [--publications N] [--clients N] [--silent N] [--times N] [--settles N] [--memory MB] [program]
 
 The server is `serve --aeron --record --clients 4`. In all trials it stays below its bound of memory (`--memory`; 0 asks for none, as
 for a build with the address sanitizer), and `quit` ends it with status 0.
@@ -16,6 +16,8 @@ for a build with the address sanitizer), and `quit` ends it with status 0.
 - silence: so many of them send a few frames each and then nothing, next to one that goes on as fast as it can, and that so many times.
   Nobody sends `start`. Each is recorded whole by one recording, which is stopped at its end ten seconds later. So places and seats are
   free for the next time.
+- settles: another server, `serve --checkpoints` over a history of 1,000 entries, makes so many settles, one for each frame of a client's
+  `block` lines. Each is answered, the history is made short every few hundred of them, and each frame is there at the end.
 """
 import queue
 import random
@@ -30,8 +32,12 @@ from pathlib import Path
 
 from days import Recording, listed
 from flow_control import FaultySender, wait_for
-from serving import MOST_MEMORY, PATIENCE, STREAM, Client, Faults, Publication, Server, recorded_position, served, start_line
-from lib.tool import MOST_AT_ONCE, STREAM_ID, Fault, conclude, expect, file_system, program, run_trials, trial_words
+from serving import (
+    MOST_MEMORY, PATIENCE, STREAM, Client, Faults, Publication, Server, killed_at_last, recorded_position, served, start_line,
+)
+from lib.tool import (
+    MOST_AT_ONCE, STREAM_ID, Fault, conclude, expect, file_system, program, room, run, run_trials, stop_positions, trial_words,
+)
 
 CLIENTS = 4  # at a time
 MOST_REPLAYS = 64  # docs/CONTROL.md, "Limits"
@@ -43,6 +49,9 @@ LENGTHS = 40, 200, 1_408  # of frames
 ENOUGH = 6_000  # frames of MTU: a poll's reply is longer than what the system keeps of it
 TIMESTAMP = 2_000
 SILENT = 60  # publications at most: with the one that goes on less than the 64 places of images, and than 64 recordings that begin
+SHORT_HISTORY = 1_000  # entries
+LEAST = 32  # bytes of a frame
+BATCH = 500  # lines that a client sends before it reads their answers
 MOST_SILENCE = 15.0  # seconds after which each is stopped: ten, and what the look at all of them takes
 
 
@@ -296,12 +305,41 @@ def silence(tool: Path, chance: random.Random, count: int, times: int, most_memo
           f"recording, stopped at its end at most {longest:.1f} s later, and purged", flush=True)
 
 
+def settles(tool: Path, count: int, most_memory: int) -> None:
+    """So many settles over a short history, which is made short again and again."""
+    begun = time.monotonic()
+    with room("/dev/shm") as folder:
+        archive = folder / "archive"
+        run([tool, "create", archive, "--history", str(SHORT_HISTORY)])
+        with killed_at_last(Server(tool, archive, "--checkpoints")) as server:
+            client = server.client()
+            expect("start", one(client, start_line(7)), "started 0 0")
+            for first in range(0, count, BATCH):
+                places = [LEAST * number for number in range(first, min(first + BATCH, count))]
+                client.socket.sendall(b"".join(b"block 0 %s\n" % STREAM.message(at, b"").hex().encode() for at in places))
+                for at in places:
+                    expect("block", client.replies.readline(), f"settled {at + LEAST}\n")
+            client.close()
+            memory = server.memory()
+            server.quit()
+        if 0 < most_memory <= memory:
+            raise Fault(f"{memory} MB")
+        checkpoints = server.errors().count("the history was made short: ")
+        expect("where the recording stopped", stop_positions(tool, archive), [LEAST * count])
+        expect("verify", run([tool, "verify", archive]), [f"verified {count}"])
+    if count > SHORT_HISTORY and checkpoints < count // SHORT_HISTORY:
+        raise Fault(f"{checkpoints} checkpoints")
+    print(f"{count} settles over a history of {SHORT_HISTORY} entries, {checkpoints} checkpoints, {memory} MB, {time.monotonic() - begun:.0f} s: "
+          "each frame is there", flush=True)
+
+
 def main() -> int:
     words = trial_words(__doc__)
     words.add_argument("--publications", type=int, default=4_000, help="4,000, the default, take about 100 seconds")
     words.add_argument("--clients", type=int, default=200)
     words.add_argument("--silent", type=int, choices=range(1, SILENT + 1), default=SILENT, metavar="N", help="publications that fall silent")
     words.add_argument("--times", type=int, default=3, help="how often they do; 3, the default, take about 50 seconds")
+    words.add_argument("--settles", type=int, default=10**6)
     words.add_argument("--memory", type=int, default=MOST_MEMORY, help="megabytes of the server at most; 0 asks for none")
     words.add_argument("--only", help="one trial alone, by its name")
     asked = words.parse_args()
@@ -311,6 +349,7 @@ def main() -> int:
         "publications": lambda: publications(tool, chance, asked.publications, asked.memory),
         "clients": lambda: clients(tool, chance, asked.clients, asked.memory),
         "silence": lambda: silence(tool, chance, asked.silent, asked.times, asked.memory),
+        "settles": lambda: settles(tool, asked.settles, asked.memory),
     }
     run_trials(all_trials, asked.only)
     return 0

@@ -60,9 +60,13 @@ class Script:
         for position in positions:
             self.replay(number, position, chance.choice((-1, 64, 65_536)), chance.choice((1, 3, 4_096)))
 
-    def try_on(self, tool: Path, folder: Path, what: str) -> None:
-        """Runs the lines by the program, and compares the replies."""
-        told = told_by(tool, folder, [line for line, _ in self.asked])
+    def checkpoint(self) -> None:
+        """Adds a checkpoint, which changes no later reply."""
+        self.asked.append(("checkpoint", ["checkpointed"]))
+
+    def try_on(self, tool: Path, folder: Path, what: str, *options: str) -> None:
+        """Runs the lines by the program with some options, and compares the replies."""
+        told = told_by(tool, folder, [line for line, _ in self.asked], *options)
         at = 0
         for line, right in self.asked:
             expect(f"{what}: {line[:100]}", told[at : at + len(right)], right)
@@ -88,10 +92,10 @@ def ended(tool: Path, *words: str | Path, given: bytes = b"") -> subprocess.Comp
     return subprocess.CompletedProcess([tool, *words], process.returncode, out, error)
 
 
-def told_by(tool: Path, folder: Path, lines: Iterable[str]) -> list[str]:
-    """The replies of `run` to some lines. Raises Fault if it reports a failure, or warns of a closed gate without a reason."""
+def told_by(tool: Path, folder: Path, lines: Iterable[str], *options: str) -> list[str]:
+    """The replies of `run` with some options to some lines. Raises Fault if it reports a failure, or warns of a closed gate without a reason."""
     warned = warning(files_of(folder))
-    done = ended(tool, "run", folder, given="".join(f"{line}\n" for line in lines).encode())
+    done = ended(tool, "run", folder, *options, given="".join(f"{line}\n" for line in lines).encode())
     error = done.stderr.decode()
     expect("run: its status, and its first line of standard error", (done.returncode, error[: len(warned)]), (0, warned))
     expect("run: whether the rest of standard error is calm", (is_calm(error[len(warned) :]), error), (True, error))
