@@ -23,7 +23,7 @@ from random import Random
 from lib.mounts import Skipped, make_ext4, mounted
 from lib.slow_syncs import slow_syncs
 from lib.tool import Fault, conclude, expect, program, room, run, run_trials, stop_positions, trial_words
-from serving import Sender, Server, compare, killed_at_last, recorded_position, served, start_line
+from serving import IN_FLIGHT, Sender, Server, compare, killed_at_last, recorded_position, served, start_line
 
 MANY, FEW = 32, 8
 HISTORY = "16777216"
@@ -126,12 +126,11 @@ def recorded_to_a_fault(tool: Path, work: Path, archive: Path, chance: Random) -
         client, answered = server.client(), dict.fromkeys(range(FEW), 0)
         until = time.monotonic() + 60
         while "flush: " not in server.errors() and "error 1" not in server.errors():
-            for sender in senders:
-                for _ in range(4):
+            for number, sender in enumerate(senders):
+                for _ in range(32):
                     sender.message(1_408)
-                sender.repeat()
-            with suppress(Fault):
-                answered |= {number: recorded_position(client, number) for number in answered}
+                with suppress(Fault):
+                    answered[number] = sender.until(client, number, IN_FLIGHT)
             if time.monotonic() > until:
                 raise Skipped("the device took everything")
         time.sleep(0.5)

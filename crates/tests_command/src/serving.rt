@@ -403,13 +403,13 @@ fn names_of_a_server(rt: HostRuntime) -> Result<(), Fail> {
         "--name wants 1 to 64 of the characters A-Z, a-z, 0-9, _, . and -",
     );
     let longest = "AZaz09_.-0123456789012345678901234567890123456789012345678901234";
+    let longer = "AZaz09_.-01234567890123456789012345678901234567890123456789012345";
     let folder = format!(in rt.alloc(); "{}/archive_tool-unnamed", env::temp_dir(&rt)?.display())?;
-    let longer = format!(in rt.alloc(); "{longest}5")?;
     let mut out = Vec::new(rt.alloc());
     for (name, reason, status) in [
         (longest, absent, 3),
         ("a", absent, 3),
-        (longer.as_str(), wrong, 2),
+        (longer, wrong, 2),
         ("", wrong, 2),
         ("a b", wrong, 2),
         ("a\"", wrong, 2),
