@@ -5,6 +5,7 @@ ghost use Rattle.archive_lock.specs.Held.{engine_seen, view_of};
 ghost use Rattle.call_history.specs.Passes.{AllOfTable, new_passes};
 
 use crate::agents::{gated_pairs, two_pairs};
+use crate::benches::{group_again, group_fails, groups};
 use crate::ends::{End, ended_pairs};
 use crate::failing::{Left, each_again, faults, left_on, reads_again};
 use crate::held_back::one_pair;
@@ -40,6 +41,10 @@ pub(crate) enum Scenario {
     /// The call of the disk of this number fails, counted after those that make the archive.
     Fault(u64),
     EachAgain,
+    Group,
+    /// The call of the disk of this number fails, counted from a group's settling on.
+    GroupFault(u64),
+    GroupAgain,
     ReadAgain,
 }
 
@@ -97,6 +102,8 @@ fn made(alloc: Global, scenario: Scenario) -> Result<Engine<MemoryDisk>, Refusal
         Scenario::TurnAgain | Scenario::ReadAgain => reopened(alloc, false),
         // Seven calls make the archive.
         Scenario::Fault(call) => begun(alloc, call.wrapping_add(7)),
+        // Two starts and two writes make ten more.
+        Scenario::GroupFault(call) => begun(alloc, call.wrapping_add(17)),
         Scenario::Break => begun(alloc, 19),
         Scenario::HeldBack => begun(alloc, 27),
         _ => begun(alloc, 0),
@@ -193,6 +200,9 @@ fn play<D: Disk + Drop + Send + Counted, A: Naming + Send + Sync, R: Threads + W
         Scenario::TurnAgain => turned_again(rt, alloc, archive, seats),
         Scenario::Fault(call) => faults(rt, alloc, archive, seats, call),
         Scenario::EachAgain => each_again(rt, alloc, archive, seats),
+        Scenario::Group => groups(rt, alloc, archive, seats),
+        Scenario::GroupFault(call) => group_fails(rt, alloc, archive, seats, call),
+        Scenario::GroupAgain => group_again(rt, alloc, archive, seats),
         Scenario::ReadAgain => reads_again(rt, alloc, archive, seats),
     }
 }
@@ -220,6 +230,21 @@ pub(crate) fn closed_with<D: Disk + Drop, A: Naming>(
     };
     match archive.close(passes) {
         Ok(closed) => Some(closed.history),
+        Err(_) => None,
+    }
+}
+
+/// The disk of an archive that is closed with all seats.
+pub(crate) fn disk_left<D: Disk + Drop, A: Naming>(
+    alloc: Global,
+    archive: SharedArchive<D, A>,
+    seats: Seats<A>,
+) -> Option<D> {
+    let Ok(passes) = passes_of(alloc, seats) else {
+        return None;
+    };
+    match archive.close(passes) {
+        Ok(closed) => Some(closed.engine.into_disk()),
         Err(_) => None,
     }
 }

@@ -7,7 +7,13 @@ mod agents;
 #[cfg(test)]
 mod archives;
 #[cfg(test)]
+mod benches;
+#[cfg(test)]
+mod checkpoints;
+#[cfg(test)]
 mod client;
+#[cfg(test)]
+mod consumers;
 #[cfg(test)]
 mod conversations;
 #[cfg(test)]
@@ -16,6 +22,10 @@ mod crowds;
 mod ends;
 #[cfg(test)]
 mod failing;
+#[cfg(test)]
+mod followers;
+#[cfg(test)]
+mod groups;
 #[cfg(test)]
 mod held_back;
 #[cfg(test)]
@@ -27,11 +37,15 @@ mod metrics;
 #[cfg(test)]
 mod misfits;
 #[cfg(test)]
+mod protocols;
+#[cfg(test)]
 mod receivers;
 #[cfg(test)]
 mod recorded;
 #[cfg(test)]
 mod refused_turns;
+#[cfg(test)]
+mod resumed;
 #[cfg(test)]
 mod scenarios;
 #[cfg(test)]

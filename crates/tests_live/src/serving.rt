@@ -3,7 +3,10 @@
 use crate::client::{Client, Ports};
 use crate::conversations::holds;
 use disk_core::Disk;
-use server::{Ends, Happening, Reporter, SETTLE_EVERY, ServeOptions, SessionNews, serve_with};
+use server::{
+    Ends, Flusher, Happening, Openings, Reporter, SETTLE_EVERY, ServeOptions, SessionNews,
+    Unreported, serve_flushing, serve_with,
+};
 use std::alloc::Global;
 use std::net::{Net, TcpListener, TcpStream, UdpSocket};
 use std::rt::Clock;
@@ -85,6 +88,47 @@ pub(crate) fn options(idle_seconds: u64, settle_every: u64) -> ServeOptions<'sta
     options
 }
 
+/// The disk that a server with these options leaves; none if it ends early.
+pub(crate) fn disk_after<
+    R: Threads + Wait + Clock + Sync,
+    D: Disk + Drop + Send,
+    T: Reporter + Drop + Send + Sync,
+>(
+    rt: &R,
+    alloc: Global,
+    ends: Ends,
+    disk: D,
+    options: &ServeOptions<'_>,
+    reporter: T,
+) -> Option<D> {
+    match serve_with(rt, alloc, ends, disk, options, reporter) {
+        Ok(served) => Some(served.disk),
+        Err(_) => None,
+    }
+}
+
+/// The same of a server whose files are flushed and opened again by this.
+pub(crate) fn disk_flushed<
+    R: Threads + Wait + Clock + Sync,
+    D: Disk + Drop + Send,
+    E: Disk + Drop + Send,
+    F: Flusher + Openings<E> + Send + Sync,
+>(
+    rt: &R,
+    alloc: Global,
+    ends: Ends,
+    disk: D,
+    options: &ServeOptions<'_>,
+    flusher: &F,
+) -> Option<D> {
+    match serve_flushing::<R, D, Unreported, E, F>(
+        rt, alloc, ends, disk, options, Unreported, flusher,
+    ) {
+        Ok(served) => Some(served.disk),
+        Err(_) => None,
+    }
+}
+
 /// Serves a disk while a conversation is held, and then quits. The disk, where all was answered as it has to be.
 pub(crate) fn served_with<
     R: Threads + Wait + Clock + Net<Listener = TcpListener, Stream = TcpStream> + Sync,
@@ -95,12 +139,7 @@ pub(crate) fn served_with<
     let told = &told;
     let (back, is_right) = thread::join(
         rt,
-        move || {
-            match serve_with(rt, alloc, ends, disk, &options, Counting(told)) {
-                Ok(served) => Some(served.disk),
-                Err(_) => None,
-            }
-        },
+        move || disk_after(rt, alloc, ends, disk, &options, Counting(told)),
         move || {
             let is_right = holds(rt, alloc, ports, told, conversation);
             quits(rt, alloc, ports) && is_right

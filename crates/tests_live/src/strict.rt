@@ -106,14 +106,14 @@ fn says_nothing<R: Threads + Wait + Clock + Net<Listener = TcpListener, Stream =
 }
 
 /// A bank A that is not a catalogue.
-fn not_a_catalogue(alloc: Global) -> MemoryDisk {
+pub(crate) fn not_a_catalogue(alloc: Global) -> MemoryDisk {
     let mut disk = MemoryDisk::new(alloc);
     let _ = disk.write_at(FileId::BankA, 0, b"none");
     disk
 }
 
 /// A new archive whose history has room for so many entries.
-fn of_limit(alloc: Global, limit: u32) -> Option<MemoryDisk> {
+pub(crate) fn of_limit(alloc: Global, limit: u32) -> Option<MemoryDisk> {
     match Engine::create(alloc, MemoryDisk::new(alloc), limit) {
         Ok(engine) => Some(engine.into_disk()),
         Err(_) => None,
