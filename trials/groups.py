@@ -22,8 +22,8 @@ from random import Random
 
 from lib.mounts import Skipped, make_ext4, mounted
 from lib.slow_syncs import slow_syncs
-from lib.tool import Fault, conclude, expect, program, room, run, run_trials, stop_positions, trial_words
-from serving import IN_FLIGHT, Sender, Server, compare, killed_at_last, recorded_position, served, start_line
+from lib.tool import MOST_AT_ONCE, Fault, conclude, expect, program, room, run, run_trials, stop_positions, trial_words
+from serving import IN_FLIGHT, Sender, Server, killed_at_last, recorded_position, served, start_line
 
 MANY, FEW = 32, 8
 HISTORY = "16777216"
@@ -51,6 +51,21 @@ def send_some(senders: list[Sender], chance: Random) -> None:
         sender.repeat()
 
 
+def expect_frames(tool: Path, archive: Path, senders: list[Sender], first: int, stops: list[int]) -> None:
+    """Each recording, the first of which has this number, ends where a frame does, and has exactly the frames that were sent up to there."""
+    lines, right = [], []
+    for replay, sender in enumerate(senders):
+        stop, frames = stops[first + replay], sender.publication.frames
+        positions = [position for position in frames if position < stop]
+        end = sum(frames[positions[-1]][1:], positions[-1]) if positions else 0
+        expect(f"where recording {first + replay} ends", stop, end)
+        right += [f"frame {position} {frames[position][0].hex()}" for position in positions]
+        lines += [f"replay {first + replay} -1 -1", *[f"poll {replay} {MOST_AT_ONCE}"] * (len(positions) // MOST_AT_ONCE + 1)]
+    told = [line for line in run([tool, "run", archive], lines) if line.startswith("frame ")]
+    if told != right:
+        raise Fault(f"recordings from {first} on: {len(told)} frames that are not the {len(right)} that were sent")
+
+
 def killed_round(tool: Path, archive: Path, chance: Random, first: int) -> int:
     """A server that is killed while it records: how many positions it answered, all of which are there."""
     answered: dict[int, int] = {}
@@ -68,8 +83,7 @@ def killed_round(tool: Path, archive: Path, chance: Random, first: int) -> int:
     stops = stop_positions(tool, archive, is_stopped=True)
     lost = {number: position for number, position in answered.items() if stops[number] < position}
     expect("positions that were answered and are gone", lost, {})
-    for number, sender in enumerate(senders):
-        compare(tool, archive, first + number, sender.publication)
+    expect_frames(tool, archive, senders, first, stops)
     return answers
 
 
@@ -111,8 +125,7 @@ def try_stops(tool: Path, chance: Random) -> None:
         server.quit()
         found = stop_positions(tool, archive)
         expect("where recordings stopped", {number: found[number] for number in order}, stopped)
-        for number, sender in enumerate(senders):
-            compare(tool, archive, number, sender.publication)
+        expect_frames(tool, archive, senders, 0, found)
     print(f"{len(stopped)} of {MANY} recordings stopped while the others settled together", flush=True)
 
 
@@ -156,8 +169,7 @@ def try_failing(tool: Path, chance: Random) -> None:
                 stops = stop_positions(tool, disk / "archive", is_stopped=True)
                 lost = {number: position for number, position in answered.items() if stops[number] < position}
                 expect("positions that were answered and are gone", lost, {})
-                for number, sender in enumerate(senders):
-                    compare(tool, disk / "archive", number, sender.publication)
+                expect_frames(tool, disk / "archive", senders, 0, stops)
         except Skipped as skipped:
             print(f"skipped: {skipped}", flush=True)
             return
