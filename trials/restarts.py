@@ -6,11 +6,15 @@ Usage: trials/restarts.py [--seed S] [--only TRIAL] [--restarts N] [--streams N]
 The senders are those of `examples/sender.py --flow-control`, which keep a driver's rules: the limit, repeats from half a term back,
 none of a range twice in 60 milliseconds, a setup frame if asked, a pad if its header is inside the window. Some datagrams are lost.
 - quits: the server is ended by `quit`, each second time with `compact` after it, in terms of 64 KiB, 1 MiB and 16 MiB.
-- kills: it is killed, in terms of 16 MiB.
+- kills: it is killed, in the same terms.
 - silences: the senders are stopped for eleven seconds. The server goes on.
   After these three each publication has one recording, with each frame that was sent. At most an MTU before its first is missing.
 - unanswered: senders that answer no NAK. The holes between recordings are those that the server printed, byte for byte.
+- places: 64 publications that nobody records have all places. One that is to be recorded is connected within a second.
+- floods: 10,000 setup frames make no recording and no entry. Each with a frame after it: at most 64 recordings in 15 seconds.
+- full: on a full disk 20 senders have at most 20 recordings after ten turns of a strict server. It mounts a tmpfs of 4 MiB.
 """
+import os
 import random
 import re
 import signal
@@ -23,6 +27,7 @@ from itertools import pairwise
 from pathlib import Path
 
 from serving import PATIENCE, Server, compare, free_port, killed_at_last, payload
+from lib.mounts import Skipped, mounted
 from lib.tool import INITIAL_TERM, ROOT, STREAM_ID, Fault, conclude, expect, program, room, run, run_trials, trial_words
 
 sys.path.insert(0, str(ROOT / "examples"))
@@ -162,8 +167,9 @@ def quits(tool: Path, chance: random.Random, restarts: int, streams: int) -> Non
 
 
 def kills(tool: Path, chance: random.Random, restarts: int, streams: int) -> None:
-    for loss in LOSSES:
-        whole(tool, chance, ["kill"] * restarts, streams, TERM_LENGTHS[-1], loss)
+    for term_length in TERM_LENGTHS:
+        for loss in LOSSES:
+            whole(tool, chance, ["kill"] * restarts, streams, term_length, loss)
 
 
 def silences(tool: Path, chance: random.Random, streams: int) -> None:
@@ -205,6 +211,83 @@ def unanswered(tool: Path, chance: random.Random, restarts: int) -> None:
         print(f"{restarts} restarts under 4 senders that answer no NAK: {len(right)} holes, each printed", flush=True)
 
 
+def entries(tool: Path, archive: Path) -> str:
+    """What `describe` says of the history of an archive."""
+    return next(line for line in run([tool, "describe", archive]) if "entries" in line)
+
+
+def places(tool: Path, chance: random.Random) -> None:
+    """64 publications of another stream send setup frames, and the one that is wanted waits for none of them."""
+    with room() as folder, socket.socket(socket.AF_INET, socket.SOCK_DGRAM) as other:
+        archive, port = folder / "archive", free_port(socket.SOCK_DGRAM)
+        run([tool, "create", archive])
+        with recorder(tool, archive, port) as server:
+            for session_id in range(100, 164):
+                other.sendto(Publication(session_id, STREAM_ID + 1, INITIAL_TERM, TERM_LENGTHS[0], MTU).setup(), ("127.0.0.1", port))
+            driver, begun = Driver(port, 1, TERM_LENGTHS[0], 0.0, chance), time.monotonic()
+            await_all([driver], "a place", lambda it: it.is_connected)
+            if time.monotonic() - begun > 1:
+                raise Fault(f"connected after {time.monotonic() - begun:.1f} s")
+            go_on([driver], 1)
+            await_all([driver], "the end", lambda it: it.consumed == it.publication.position)
+            printed = end(tool, server, archive, "quit")
+        expect("images that yielded", printed.count(" yields its place to stream "), 1)
+        print("a publication that is to be recorded got a place of 64", flush=True)
+
+
+def floods(tool: Path) -> None:
+    """10,000 publications set up: alone they begin nothing, and with a frame each 64 recordings at most in 15 seconds."""
+    for has_frame, most in ((False, 0), (True, 64)):
+        with room() as folder, socket.socket(socket.AF_INET, socket.SOCK_DGRAM) as flood:
+            archive, port = folder / "archive", free_port(socket.SOCK_DGRAM)
+            run([tool, "create", archive])
+            before = entries(tool, archive)
+            with recorder(tool, archive, port) as server:
+                until = time.monotonic() + 12
+                for session_id in range(10_000):
+                    stream = Publication(session_id, STREAM_ID, INITIAL_TERM, TERM_LENGTHS[0], MTU)
+                    flood.sendto(stream.setup(), ("127.0.0.1", port))
+                    if has_frame:
+                        for frame in stream.add(b"first"):
+                            flood.sendto(frame, ("127.0.0.1", port))
+                    time.sleep(max(0.0, (until - time.monotonic()) / (10_001 - session_id)))
+                end(tool, server, archive, "quit")
+            made = sum(map(len, recordings(tool, archive).values()))
+            if made > most:
+                raise Fault(f"{made} recordings of 10,000 publications")
+            if not has_frame:
+                expect("the history", entries(tool, archive), before)
+            print(f"10,000 setup frames{', each with a frame' if has_frame else ''}: {made} recordings", flush=True)
+
+
+def full(tool: Path, chance: random.Random) -> None:
+    """A strict server over a full disk is started ten times under 20 senders."""
+    with room() as folder, mounted(folder / "disk", "-t", "tmpfs", "-o", "size=4m", "tmpfs") as disk:
+        archive, port = disk / "archive", free_port(socket.SOCK_DGRAM)
+        archive.mkdir()
+        run([tool, "create", archive])
+        ballast = disk / "ballast"
+        drivers = [Driver(port, number + 1, TERM_LENGTHS[0], 0.0, chance) for number in range(20)]
+        for _ in range(10):
+            free = os.statvfs(disk)
+            ballast.write_bytes(bytes(max(0, free.f_bavail * free.f_frsize - 65_536)))
+            server = Server(tool, archive, "--aeron", "--strict", "--record", str(STREAM_ID), receive=port)
+            with killed_at_last(server):
+                go_on(drivers, 2)
+            ballast.unlink(missing_ok=True)
+        made = sum(map(len, recordings(tool, archive).values()))
+        if made > len(drivers):
+            raise Fault(f"{made} recordings of {len(drivers)} publications")
+        print(f"ten turns over a full disk under {len(drivers)} senders: {made} recordings", flush=True)
+
+
+def full_or_skipped(tool: Path, chance: random.Random) -> None:
+    try:
+        full(tool, chance)
+    except Skipped as skipped:
+        print(f"skipped: {skipped}", flush=True)
+
+
 def main() -> int:
     words = trial_words(__doc__)
     words.add_argument("--restarts", type=int, default=5, help="of each server")
@@ -218,6 +301,9 @@ def main() -> int:
         "kills": lambda: kills(tool, chance, asked.restarts, asked.streams),
         "silences": lambda: silences(tool, chance, asked.streams),
         "unanswered": lambda: unanswered(tool, chance, asked.restarts),
+        "places": lambda: places(tool, chance),
+        "floods": lambda: floods(tool),
+        "full": lambda: full_or_skipped(tool, chance),
     }, asked.only)
     return 0
 

@@ -24,7 +24,7 @@ use call_history::{Opened, Pass};
 use disk_core::{Disk, MemoryDisk};
 use engine_core::Engine;
 use frame_core::limits::{LONGEST_DATAGRAM, MAX_WAITING_BLOCKS};
-use server_receiver::{Images, Receiver, Reception, Senders, TENDING};
+use server_receiver::{Images, Networks, Receiver, Reception, Senders, TENDING};
 use server_recorder::{
     Flusher, OwnRecordings, Recording, SeatRoom, Seats, Unflushed, begin_short, parted, record_all,
 };
@@ -55,6 +55,8 @@ struct Serving<'a, R, T, F> {
     /// Streams whose publications are recorded without being asked, and how.
     streams: &'a [i32],
     segment_length: i32,
+    /// The networks that datagrams are taken from.
+    networks: Networks,
     /// Whether the server ends once it can record nothing.
     is_strict: bool,
     /// Whether a checkpoint is made before the first line.
@@ -217,6 +219,7 @@ pub fn serve_flushing<
         settle_every: options.settle_every,
         streams: options.streams,
         segment_length: options.segment_length,
+        networks: options.networks,
         is_strict: options.is_strict,
         begins_short: options.begins_short,
         shared: &lines.shared,
@@ -253,6 +256,7 @@ fn connections_of<R: Wait, T: Reporter>(
 ) -> Connections<T>
     ensures { result.places ≡ places }
 {
+    shared.meter.clients.set(places.clients);
     let ending = Ending::new();
     let control = Port {
         listener: SharedListener::new(rt, ends.control, places.clients, &ending),
@@ -594,6 +598,7 @@ fn receive<R: Wait + Clock, T: Reporter, F>(
         images,
         senders,
         with.streams,
+        with.networks,
     );
     let is_whole = is_timed && reception.receive_all(buffer.as_mut_slice());
     if !is_whole {

@@ -4,6 +4,7 @@ use Rattle.std.specs.Ordering.{int_eq}
 use Rattle.image_core.specs.Received.{Received, rebuilt}
 use Rattle.metrics_text.specs.declared.measures.ImageMeasures.{ImageMeasures}
 use Rattle.server_receiver.specs.declared.gaps.SeenGap.{SeenGap}
+use Rattle.server_receiver.specs.declared.metering.ImageTraffic.{ImageTraffic}
 
 -- ---- datagrams that came late or again
 
@@ -41,13 +42,17 @@ stood now (Some gap) = now - gap.since
 
 -- ---- images
 
--- what is measured of an image with this number, whose first gap has stood for so many milliseconds
-abbrev pub image_measured : ℕ → Received → ℕ → ImageMeasures
-image_measured number image millis = record {
+-- what is measured of an image with this number, of which so much was counted
+abbrev pub image_measured : ℕ → Received → ImageTraffic → ImageMeasures
+image_measured number image traffic = record {
   image = number;
   stream_id = image.publication.stream_id;
   session_id = image.publication.session_id;
   rebuilt = pos (rebuilt image);
   consumed = pos image.from;
-  gap_micros = millis * 1000;
+  gap_micros = traffic.gap_millis * 1000;
+  datagrams = traffic.datagrams;
+  naks = traffic.naks;
+  lost = traffic.lost;
+  silent_micros = traffic.silent_millis * 1000;
 }

@@ -47,16 +47,17 @@ impl<R: Wait + Clock, T: Reporter> Reception<'_, R, T> {
         requires begins { IsUsable begin.now }
         requires stands { IsUsable stand.now }
     {
+        let sender = self.sender_address(place);
         self.give_back(place);
         let outcome = self.images.resume(begin, stand);
         if let DatagramOutcome::Joined { place, point } = outcome {
-            let sender = resumption.image.sender;
             self.note_joined(point, sender, Resumes::Yes);
             if let Some(senders) = self.senders.as_mut() {
                 senders.note(&outcome, sender, now);
             }
             let to = resumption.image.point.position;
             self.resumed.begin(place, point.position, to, now);
+            self.ages.join(place, now);
             self.metering.forget(place);
             self.report_resumed(place, resumption);
             self.ask_to_record(place);

@@ -4,6 +4,7 @@
 mod checkpoints;
 mod flushing;
 mod grouping;
+mod opening;
 mod own_recordings;
 mod recording;
 mod seats;

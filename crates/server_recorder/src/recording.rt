@@ -3,7 +3,7 @@
 use crate::checkpoints::{keep_short, retry_when_full, wait_at_most};
 use crate::flushing::{Flusher, Flushing, MOST_FLUSHED};
 use crate::grouping::settle_due;
-use crate::own_recordings::OwnRecordings;
+use crate::own_recordings::{OwnRecordings, count_recordings, wait_to_count};
 use crate::seats::Seats;
 use crate::settling::{Settling, Written};
 use crate::stopping::note_standing;
@@ -86,12 +86,16 @@ fn record_batches<D: Disk, A: Naming, R: Wait + Clock, T: Reporter>(
     let mut settling = Settling::new(settle_every);
     let mut run = Run::new(with.alloc);
     let mut tried = None;
+    let mut counted = None;
     for _ in with.rt.forever() {
         let taken = take_batch(with, &watch, &mut settling, batch);
         write_batch(with, seats, &mut settling, batch, &mut run);
         settle_due(with, seats, &mut settling, &taken, flushing);
         settle_leaving(with, seats, &mut settling, &taken);
         own.follow(with, seats, &taken, watch.read(with.rt));
+        if with.shared.meter.is_on() {
+            count_recordings(with, seats, watch.read(with.rt), &mut counted);
+        }
         retry_when_full(with, seats, &watch, &mut tried);
         with.shared.queue.answer(with.rt);
         if taken.is_over {
@@ -113,6 +117,7 @@ fn take_batch<D: Disk, A: Naming, R: Wait + Clock, T: Reporter>(
     }
     settling.set_time(watch.read(with.rt));
     let wait = wait_at_most(with.shared, settling.next_due());
+    let wait = wait_to_count(with.shared, wait);
     let taken = with.shared.queue.take(with.rt, batch, wait);
     settling.set_time(watch.read(with.rt));
     taken
@@ -182,6 +187,9 @@ pub(crate) fn note_settled<D: Disk, A: Naming, R: Wait + Clock, T: Reporter>(
     position: i64,
 ) {
     with.shared.settled(with.rt, written.session, position);
+    if with.shared.takes_hold() {
+        with.shared.look_round(with.socket);
+    }
     if let Some(counts) = with.shared.counts.of(written.image) {
         counts.recorded.add(written.bytes);
     }
@@ -197,7 +205,7 @@ pub(crate) fn note_time<D: Disk, A: Naming, R: Wait + Clock, T: Reporter>(
     if let Some(micros) = watch.micros(with.rt) {
         settling.note_syncs(micros, syncs);
         if with.shared.meter.is_on() {
-            with.shared.meter.settled(micros);
+            with.shared.meter.settled(with.rt, micros);
         }
     }
 }

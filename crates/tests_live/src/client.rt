@@ -1,6 +1,6 @@
 //! A client of a server, on a thread of its own, and the server that it talks to.
 
-use crate::vectors::{hello, hello_of, setup_of};
+use crate::vectors::{hello, hello_of, setup_of, setup_of_other};
 use std::alloc::{AllocError, Global};
 use std::io::{BufRead, BufReader, Write};
 use std::net::{Net, SocketAddr, TcpListener, TcpStream, UdpSocket};
@@ -61,6 +61,11 @@ impl Client {
             socket,
             receive: ports.receive,
         })
+    }
+
+    /// Where its connection comes from.
+    pub(crate) fn address(&self) -> Option<SocketAddr> {
+        self.lines.get_ref().local_addr().ok()
     }
 
     /// Sends bytes.
@@ -142,6 +147,38 @@ impl Client {
             }
         }
         true
+    }
+
+    /// Sends the first message of each of them.
+    pub(crate) fn casts_firsts(&self) -> bool {
+        for session_id in 100..164 {
+            if !self.casts(hello_of(session_id).as_slice()) {
+                return false;
+            }
+        }
+        true
+    }
+
+    /// Sends the setup frames of 64 publications of stream 9999.
+    pub(crate) fn casts_others(&self) -> bool {
+        for session_id in 100..164 {
+            if !self.casts(setup_of_other(session_id).as_slice()) {
+                return false;
+            }
+        }
+        true
+    }
+
+    /// Datagrams go out by another socket from now on, and come there.
+    pub(crate) fn moves<R: Net<Listener = TcpListener, Stream = TcpStream>>(
+        &mut self,
+        rt: &R,
+    ) -> bool {
+        let Ok(socket) = UdpSocket::bind(rt, "127.0.0.1:0") else {
+            return false;
+        };
+        self.socket = socket;
+        self.waits(Duration::from_secs(PATIENCE))
     }
 
     /// Whether publications of the session ids 0 to 199, one after another, are each started, recorded and stopped.

@@ -94,6 +94,7 @@ asks positions 1: error 1 UnknownRecording
 asks list 0: error 22 BadLine
 asks positions: error 22 BadLine
 asks images: error 22 BadLine
+asks replays: error 22 BadLine
 asks start 1001 8 42 65536 1408 65536 0 1000 c: error 22 BadLine
 asks start-from s 1001 8 42 65536 1408 65536 0 1000 c: error 22 BadLine
 asks extend 0 1001 7 42 65536 1408 64: error 22 BadLine

@@ -5,7 +5,8 @@
 //! - `asks` says a line once, `awaits` until it is answered so, `asks-alone` in a connection of its own beside this one;
 //!   `sends` sends bytes of a line;
 //! - `casts` sends a datagram, `casts-elsewhere` by another socket, which gets no answer, `casts-ten` the first ten messages of
-//!   a stream, `casts-setups` the setup frames of 64 publications;
+//!   a stream, `casts-setups` the setup frames of 64 publications, `casts-firsts` also a message of each, `casts-others` the setup
+//!   frames of 64 publications of another stream; `moves` makes another socket the client's;
 //! - `receives` waits for one, `receives-either` for one of two, `receives-among` for one among others, `silence` until none has come for a second;
 //! - `follows` waits for one line more;
 //! - `beats` sends a datagram each 200 milliseconds for 3 seconds;
@@ -80,6 +81,9 @@ fn is_met<R: Clock + Net<Listener = TcpListener, Stream = TcpStream>>(
         "beats" => beats(rt, client, datagram(said)),
         "casts-ten" => client.casts_ten(),
         "casts-setups" => client.casts_setups(),
+        "casts-firsts" => client.casts_setups() && client.casts_firsts(),
+        "casts-others" => client.casts_others(),
+        "moves" => client.moves(rt),
         "records-200" => client.records_200(rt, alloc),
         "receives" => client.receives(datagram(said)),
         "receives-either" => receives_either(client, said),

@@ -1,6 +1,7 @@
 //! Connections that are sent the frames of a replay: docs/SERVING.md, "Consumers"; docs/PROTOCOL.md, "Following a recording".
 
 use crate::client::{Client, Ports, connected};
+use crate::open_replays::lists;
 use crate::serving::{bound, disk_flushed, options, quits, served};
 use crate::vectors::hello;
 use disk_core::{FileId, MemoryDisk};
@@ -256,6 +257,14 @@ fn is_live(stream: &mut TcpStream) -> bool {
         && comes(stream, sign(0xC0, 2).as_slice())
 }
 
+/// Whether a follower's replay is listed where its next message begins, with the follower's address.
+fn is_listed(client: &mut Client, alloc: Global, stream: &TcpStream) -> bool {
+    match stream.local_addr() {
+        Ok(address) => lists(alloc, client, &["open 0 0 128 -1 follow"], address) == Ok(true),
+        Err(_) => false,
+    }
+}
+
 /// Whether a follower's replay can't be polled, and is closed by `close`.
 fn is_its_own(client: &mut Client, alloc: Global) -> bool {
     client.asks(alloc, "poll 0 1", "error 9 UnknownReplay")
@@ -294,9 +303,11 @@ fn is_closed<R: Net<Listener = TcpListener, Stream = TcpStream>>(
     match answered(rt, ports, "follow 0 64 -1\n", "following 64\n") {
         Some(mut stream) => {
             is_live(&mut stream)
+                && is_listed(&mut client, alloc, &stream)
                 && is_its_own(&mut client, alloc)
                 && hears_nothing_else(&mut stream, alloc)
                 && client.asks(alloc, "close 0", "error 9 UnknownReplay")
+                && client.asks(alloc, "replays", "end 0")
         }
         None => false,
     }

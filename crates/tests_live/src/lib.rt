@@ -37,6 +37,10 @@ mod metrics;
 #[cfg(test)]
 mod misfits;
 #[cfg(test)]
+mod open_replays;
+#[cfg(test)]
+mod places;
+#[cfg(test)]
 mod protocols;
 #[cfg(test)]
 mod receivers;

@@ -6,13 +6,14 @@ use crate::strict::failing;
 use disk_core::MemoryDisk;
 use metrics_text::{
     ArchiveMeasures, ClientMeasures, DatagramMeasures, ImageMeasures, Measures, RecordingMeasures,
+    ReplayMeasures,
 };
 use server::{Happening, Reporter, SETTLE_EVERY, serve_with};
 use std::alloc::Global;
 use std::net::{Net, TcpListener, TcpStream};
 use std::rt::Clock;
 use std::sync::Wait;
-use std::sync::atomic::{AtomicBool, Ordering};
+use std::sync::atomic::{AtomicBool, AtomicU64, Ordering};
 use std::test::Fail;
 use std::thread::{self, Threads};
 
@@ -66,6 +67,17 @@ const IMAGE: ImageMeasures = ImageMeasures {
     rebuilt: 64,
     consumed: 64,
     gap_micros: 0,
+    datagrams: 3,
+    naks: 0,
+    lost: 0,
+    silent_micros: 0,
+};
+
+/// The first replay, after its poll.
+const REPLAY: ReplayMeasures = ReplayMeasures {
+    replay: 0,
+    recording: 0,
+    next: 64,
 };
 
 /// The same call, answered by a device fault, and one behind it.
@@ -117,14 +129,28 @@ fn is_right(measures: &Measures) -> bool {
         && are_clients(&measures.clients)
         && measures.recorder.bytes == 64
         && measures.recorder.frames == 1
-        && measures.recorder.settles == 1
-        && measures.recorder.settle_micros == measures.recorder.longest_micros
+        && measures.recorder.settles.count == 1
         && measures.recordings.as_slice() == [RECORDING].as_slice()
-        && measures.images.as_slice() == [IMAGE].as_slice()
+        && measures.replays.as_slice() == [REPLAY].as_slice()
+        && are_images(measures.images.as_slice())
+}
+
+/// Whether the image's last datagram came within the time of the conversation.
+fn are_images(images: &[ImageMeasures]) -> bool {
+    match images {
+        [image] => {
+            let seen = ImageMeasures {
+                silent_micros: 0,
+                ..*image
+            };
+            seen == IMAGE && image.silent_micros > 0 && image.silent_micros < 60_000_000
+        }
+        _ => false,
+    }
 }
 
 fn are_clients(clients: &ClientMeasures) -> bool {
-    clients.polls == 1 && clients.replays == 1
+    clients.polls == 1 && clients.replays == 1 && clients.clients == 1 && clients.places == 1
 }
 
 /// What a server of a disk told of its measures while a conversation was held that ends it.
@@ -171,6 +197,67 @@ fn unseen() -> Seen {
         is_broken: AtomicBool::new(false),
         was_told: AtomicBool::new(false),
     }
+}
+
+/// Nothing happens.
+const REST: &str = "\
+rests
+asks quit: bye
+";
+
+/// Counts how often a server is measured, so many milliseconds apart.
+#[derive(Clone, Copy, Drop)]
+struct Counting<'a> {
+    count: &'a AtomicU64,
+    every: u64,
+}
+
+impl Reporter for Counting<'_> {
+    fn report(&self, happening: &Happening<'_>) {
+        let _ = happening;
+    }
+
+    fn measured(&self, measures: &Measures) {
+        let _ = measures;
+        self.count.fetch_add(1, Ordering::SeqCst);
+    }
+
+    fn measures_every(&self) -> u64 {
+        self.every
+    }
+}
+
+/// How often a server was measured that was to be so many milliseconds apart.
+fn counted<R: Threads + Wait + Clock + Net<Listener = TcpListener, Stream = TcpStream> + Sync>(
+    rt: &R,
+    alloc: Global,
+    every: u64,
+) -> Option<u64> {
+    let (ends, ports) = bound(rt)?;
+    let (told, count) = (Told::new(), AtomicU64::new(0));
+    let (told, count) = (&told, &count);
+    let disk = MemoryDisk::new(alloc);
+    let mut options = options(60, SETTLE_EVERY);
+    options.is_measured = true;
+    let (has_ended, is_held) = thread::join(
+        rt,
+        move || { serve_with(rt, alloc, ends, disk, &options, Counting { count, every }).is_ok() },
+        move || holds(rt, alloc, ports, told, REST),
+    );
+    if has_ended && is_held {
+        Some(count.load(Ordering::SeqCst))
+    } else {
+        None
+    }
+}
+
+/// A reporter says how often the server is measured.
+#[test]
+fn a_server_is_measured_as_often_as_asked(rt: HostRuntime) -> Result<(), Fail> {
+    let often = counted(&rt, rt.alloc(), 100).ok_or("often")?;
+    let seldom = counted(&rt, rt.alloc(), 60_000).ok_or("seldom")?;
+    assert!(rt; often >= 8 && seldom == 1, "{often}, {seldom}");
+    Ok(())
 }
 
 /// A measured server reports what it recorded, received and answered, by exact numbers.

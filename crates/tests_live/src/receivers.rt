@@ -67,17 +67,19 @@ fn a_silent_sender_gets_no_status_messages(rt: HostRuntime) -> Result<(), Fail> 
     Ok(())
 }
 
-/// Another address moves nothing.
+/// What comes from another address is not the stream's.
 const FORGED: &str = "\
 casts SETUP
 asks start 1001 7 42 65536 1408 65536 0 1000 c: started 0 0
 receives STATUS_AT_0
 casts-elsewhere SETUP
 casts-elsewhere HELLO_AT_0
+asks positions 0: positions 0 0 -1
+casts HELLO_AT_0
 receives-among STATUS_AT_64
 ";
 
-/// Status messages go to the address of the setup frame, also while frames come from another one.
+/// Status messages go to the address of the setup frame. Frames from another one are not recorded.
 #[test]
 fn another_address_gets_no_status_messages(rt: HostRuntime) -> Result<(), Fail> {
     let disk = MemoryDisk::new(rt.alloc());

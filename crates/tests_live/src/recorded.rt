@@ -2,7 +2,7 @@
 
 use crate::serving::served_with;
 use disk_core::MemoryDisk;
-use server::{IDLE_SECONDS, SEGMENT_LENGTH, SETTLE_EVERY, ServeOptions};
+use server::{IDLE_SECONDS, Networks, SEGMENT_LENGTH, SETTLE_EVERY, ServeOptions};
 use std::test::Fail;
 
 /// Aeron's initial window, and the receiver 9, which records the publications of these streams.
@@ -14,6 +14,7 @@ pub(crate) fn recorder(streams: &[i32]) -> ServeOptions<'_> {
         receiver_id: 9,
         clients: None,
         streams,
+        networks: Networks::new(),
         segment_length: SEGMENT_LENGTH,
         is_strict: false,
         is_measured: false,
@@ -22,7 +23,7 @@ pub(crate) fn recorder(streams: &[i32]) -> ServeOptions<'_> {
     }
 }
 
-/// A setup frame makes a recording. After a client's `stop` the next setup frame at the stop position extends it. After ten seconds of
+/// A setup frame and a message make a recording. After a client's `stop` the next setup frame at the stop position extends it. After ten seconds of
 /// silence it is stopped, and goes on where it was: what a setup frame further on leaves out is asked for.
 const RECORDED: &str = "\
 casts SETUP
@@ -51,7 +52,7 @@ asks images: image 3 7 1001 42 65536 1408 128 2
 follows end 1
 ";
 
-/// A setup frame of a stream of `--record` begins a recording. After `stop` and after silence the next one goes on with it.
+/// The first message of a stream of `--record` begins a recording. After `stop` and after silence the next one goes on with it.
 #[test]
 fn a_stream_is_recorded_without_being_asked(rt: HostRuntime) -> Result<(), Fail> {
     let disk = MemoryDisk::new(rt.alloc());
@@ -96,23 +97,24 @@ fn another_stream_is_not_recorded(rt: HostRuntime) -> Result<(), Fail> {
     Ok(())
 }
 
-/// Setup frames of 64 publications begin so many recordings. One more begins 15 seconds after the first of them.
+/// 64 publications begin so many recordings. One more begins 15 seconds after the first of them.
 const MANY: &str = "\
-casts-setups
-awaits positions 63: positions 0 0 -1
+casts-firsts
 rests
 rests
+awaits positions 63: positions 0 64 -1
 rests
 rests
 casts SETUP
+casts HELLO_AT_0
 pauses
 asks positions 64: error 1 UnknownRecording
 rests
 rests
-awaits positions 64: positions 0 0 -1
+awaits positions 64: positions 0 64 -1
 ";
 
-/// 64 setup frames begin 64 recordings at once. One more begins 15 seconds after the first.
+/// 64 publications begin 64 recordings at once. One more begins 15 seconds after the first.
 #[test]
 fn at_most_64_recordings_begin_in_a_short_time(rt: HostRuntime) -> Result<(), Fail> {
     let disk = MemoryDisk::new(rt.alloc());

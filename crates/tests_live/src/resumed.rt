@@ -311,7 +311,7 @@ fn a_second_stop_loses_nothing(rt: HostRuntime) -> Result<(), Fail> {
     Ok(())
 }
 
-/// A setup frame before the recording's end, and one out of reach. Each makes a recording of its own.
+/// A setup frame before the recording's end, and one out of reach, each with a message. Each makes a recording of its own.
 const BACK: &str = "\
 casts SETUP_AT_64
 casts HELLO_AT_64
@@ -321,7 +321,8 @@ asks quit: bye
 
 const FAR: &str = "\
 casts SETUP_FAR_ON
-awaits positions 1: positions 49152 49152 -1
+casts HELLO_FAR_ON
+awaits positions 1: positions 49152 49216 -1
 asks quit: bye
 ";
 

@@ -59,6 +59,10 @@ const SETUP_FAR_ON: &[u8] = &[
     0, 0, 0, 1, 0, 0x80, 5, 0, 0, 0, 0, 0, 0,
 ];
 
+/// `hello`, term 42, offset 49,152.
+const HELLO_FAR_ON: &[u8] =
+    b"\x25\0\0\0\0\xc0\x01\0\0\xc0\0\0\x07\0\0\0\xe9\x03\0\0\x2a\0\0\0\0\0\0\0\0\0\0\0hello";
+
 /// `hello`, term 42, offset 192.
 const HELLO_AT_192: &[u8] =
     b"\x25\0\0\0\0\xc0\x01\0\xc0\0\0\0\x07\0\0\0\xe9\x03\0\0\x2a\0\0\0\0\0\0\0\0\0\0\0hello";
@@ -82,6 +86,14 @@ pub(crate) fn setup_of(session_id: u8) -> [u8; 40] {
         *to = *from;
     }
     frame[12] = session_id;
+    frame
+}
+
+/// The setup frame of a session id of stream 9999.
+pub(crate) fn setup_of_other(session_id: u8) -> [u8; 40] {
+    let mut frame = setup_of(session_id);
+    frame[16] = 0x0f;
+    frame[17] = 0x27;
     frame
 }
 
@@ -145,6 +157,18 @@ const STATUS_AT_0: &[u8] = &[
     9, 0, 0, 0, 0, 0, 0, 0,
 ];
 
+/// The same with a window of one MTU.
+const STATUS_OF_MTU: &[u8] = &[
+    0x24, 0, 0, 0, 0, 0, 3, 0, 7, 0, 0, 0, 0xe9, 3, 0, 0, 0x2a, 0, 0, 0, 0, 0, 0, 0, 0x80, 5, 0, 0,
+    9, 0, 0, 0, 0, 0, 0, 0,
+];
+
+/// The setup frame of the same publication in terms of 131,072 bytes.
+const SETUP_OF_OTHER_TERMS: &[u8] = &[
+    0x28, 0, 0, 0, 0, 0, 5, 0, 0, 0, 0, 0, 7, 0, 0, 0, 0xe9, 3, 0, 0, 0x2a, 0, 0, 0, 0x2a, 0, 0, 0,
+    0, 0, 2, 0, 0x80, 5, 0, 0, 0, 0, 0, 0,
+];
+
 /// Consumed to offset 64 of term 42.
 const STATUS_AT_64: &[u8] = &[
     0x24, 0, 0, 0, 0, 0, 3, 0, 7, 0, 0, 0, 0xe9, 3, 0, 0, 0x2a, 0, 0, 0, 0x40, 0, 0, 0, 0, 0x50, 0,
@@ -200,12 +224,13 @@ const NAK_OF_PAD: &[u8] = &[
 ];
 
 /// The datagrams that conversations name.
-const DATAGRAMS: [(&'static str, &'static [u8]); 31] = [
+const DATAGRAMS: [(&'static str, &'static [u8]); 34] = [
     ("HELLO_AT_0", HELLO_AT_0),
     ("HELLO_AT_64", HELLO_AT_64),
     ("HELLO_AT_64_CUT_OFF", HELLO_AT_64_CUT_OFF),
     ("HELLO_AT_128", HELLO_AT_128),
     ("HELLO_AT_192", HELLO_AT_192),
+    ("HELLO_FAR_ON", HELLO_FAR_ON),
     ("HELLO_AT_TERM_END", HELLO_AT_TERM_END),
     ("HELLO_IN_NEXT_TERM", HELLO_IN_NEXT_TERM),
     ("HELLO_LATER", HELLO_LATER),
@@ -222,6 +247,8 @@ const DATAGRAMS: [(&'static str, &'static [u8]); 31] = [
     ("NAK_AT_128", NAK_AT_128),
     ("NAK_IN_NEXT_TERM", NAK_IN_NEXT_TERM),
     ("STATUS_AT_0", STATUS_AT_0),
+    ("STATUS_OF_MTU", STATUS_OF_MTU),
+    ("SETUP_OF_OTHER_TERMS", SETUP_OF_OTHER_TERMS),
     ("STATUS_AT_64", STATUS_AT_64),
     ("STATUS_AT_128", STATUS_AT_128),
     ("STATUS_AT_192", STATUS_AT_192),
