@@ -3,8 +3,8 @@
 
 Usage: bench/lags.py [--seconds N] [--wait MICROSECONDS] [program], on the file system of TRIAL_ROOM, else that of TMPDIR. `strace` counts syncs.
 
-1, 8 and 62 streams send 10 messages a second each to a served folder. Each `fdatasync` of the server takes so much longer (5,000
-microseconds by default). A client polls a replay of each stream, one after another, and notes when each message came.
+1, 8 and 62 streams send 10 messages a second each to a served folder. Each `fdatasync` of a file that the server wrote takes so
+much longer (5,000 microseconds by default). A client polls a replay of each stream, one after another, and notes when each message came.
 Printed are milliseconds from sending to that: the median and the 99th percentile. Then 64 streams send at once, again and again, and
 the system calls of the recording thread show how many syncs a settling of many takes under the archive's lock.
 It fails where the 99th percentile is past 60 milliseconds of 8 streams or 200 of 62, or a settling of n sessions takes more than n + 2 syncs.
