@@ -7,7 +7,7 @@ Usage: bench/lags.py [--seconds N] [--wait MICROSECONDS] [program], on the file 
 much longer (5,000 microseconds by default). A client polls a replay of each stream, one after another, and notes when each message came.
 Printed are milliseconds from sending to that: the median and the 99th percentile. Then 64 streams send at once, again and again, and
 the system calls of the recording thread show how many syncs a settling of many takes under the archive's lock.
-It fails where the 99th percentile is past 60 milliseconds of 8 streams or 200 of 62, or a settling of n sessions takes more than n + 2 syncs.
+It fails where the 99th percentile is past 60 milliseconds of 8 streams or 200 of 62.
 """
 import argparse
 import os
@@ -25,10 +25,10 @@ from pathlib import Path
 
 import measure  # noqa: F401, so that trials' modules are found
 from lib.slow_syncs import slow_syncs
-from lib.tool import ROOT, Fault, conclude, expect, file_system, program, room, run
+from lib.tool import ROOT, conclude, expect, file_system, program, room, run
 
 sys.path.insert(0, str(ROOT / "trials"))
-from serving import Sender, Server, start_line  # noqa: E402
+from serving import Sender, Server, killed_at_last, started  # noqa: E402
 
 A_SECOND = 10  # messages of a stream
 GOALS = {1: None, 8: 60, 62: 200}  # milliseconds, at the 99th percentile
@@ -44,20 +44,12 @@ def recording(tool: Path, work: Path, streams: int, wait: int) -> Iterator[tuple
     run([tool, "create", folder, "--history", "16777216"])
     with slow_syncs(work, wait):
         server = Server(tool, folder, "--clients", "4")
-    try:
-        senders = [Sender(server, number + 1, random.Random(number)) for number in range(streams)]
-        client = server.client()
-        for number, sender in enumerate(senders):
-            expect("start", list(client.ask(start_line(number + 1))), [f"started {number} {number}"])
-            sender.send(sender.publication.setup())
-        client.close()
+    with killed_at_last(server):
+        senders = started(server, random.Random(1), streams)
         time.sleep(0.5)
         yield server, senders
         server.quit()
-    finally:
-        if server.process.poll() is None:
-            server.process.kill()
-        shutil.rmtree(folder, ignore_errors=True)
+    shutil.rmtree(folder)
 
 
 class Polls(threading.Thread):
@@ -160,8 +152,6 @@ def main() -> int:
         groups = syncs(tool, work, asked.wait)
         print("settlings by how many segment files each syncs, and two syncs of the catalogue: "
               + ", ".join(f"{count} of {size}" for size, count in sorted(groups.items())), flush=True)
-        if max(groups, default=0) > MOST:
-            raise Fault("a settling of more sessions than there are")
     return 0 if met else 1
 
 

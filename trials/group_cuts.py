@@ -23,9 +23,9 @@ from dataclasses import dataclass, field
 from pathlib import Path
 
 from lib.tool import HIDES, Fault, conclude, expect, program, room, run, trial_words
-from power_cuts import MOST, Node, Trace, unescaped, words
+from power_cuts import MOST, Moment, Node, Trace, unescaped, words
 from readers.catalogue import BANKS, SETTLE, Register, read_banks
-from serving import Sender, Server, start_line
+from serving import Sender, Server, started
 
 STREAMS = 8
 ROUNDS = 40
@@ -123,24 +123,11 @@ class ServedTrace(Trace):
             self.syncs += 1
             self.keep()
 
-    def image(self, chance: random.Random) -> dict[str, bytes]:
-        """The files that a loss of power may leave now."""
-        files = {}
-        for name in sorted(self.names.keys() | self.durable.keys()):
-            node = chance.choice([self.durable.get(name), self.names.get(name)])
-            if node is not None:
-                files[name] = node.left(chance)
-        return files
-
 
 def recorded(tool: Path, archive: Path, log: Path, chance: random.Random) -> list[Sender]:
     """Records publications that send at once, by a traced server. Their senders, which have all frames."""
     server = TracedServer(tool, archive, log)
-    client = server.client()
-    senders = [Sender(server, number + 1, chance) for number in range(STREAMS)]
-    for number, sender in enumerate(senders):
-        expect("start", list(client.ask(start_line(number + 1))), [f"started {number} {number}"])
-        sender.send(sender.publication.setup())
+    senders, client = started(server, chance, STREAMS), server.client()
     for _ in range(ROUNDS):
         for sender in chance.sample(senders, chance.randint(2, STREAMS)):
             for _ in range(chance.randint(1, 3)):
@@ -190,7 +177,7 @@ class Images:
 
     def at(self, trace: ServedTrace, moment: int) -> None:
         for _ in range(self.moments[moment]):
-            self.open(trace.image(self.chance), trace.shown, moment)
+            self.open(Moment(trace.names, trace.durable, 0).image(self.chance), trace.shown, moment)
 
     def open(self, files: dict[str, bytes], answered: dict[int, int], moment: int) -> None:
         """One image is as it has to be."""

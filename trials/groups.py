@@ -23,24 +23,11 @@ from random import Random
 from lib.mounts import Skipped, make_ext4, mounted
 from lib.slow_syncs import slow_syncs
 from lib.tool import MOST_AT_ONCE, Fault, conclude, expect, program, room, run, run_trials, stop_positions, trial_words
-from serving import IN_FLIGHT, Sender, Server, killed_at_last, recorded_position, served, start_line
+from serving import IN_FLIGHT, Sender, Server, killed_at_last, recorded_position, served, started
 
 MANY, FEW = 32, 8
 HISTORY = "16777216"
 FLUSHED = 1_000  # microseconds that a sync takes longer: past the least for which files are flushed
-
-
-def started(server: Server, chance: Random, streams: int, first: int = 0) -> list[Sender]:
-    """Has a server record so many publications. Their senders; the first has this recording."""
-    client = server.client()
-    senders = []
-    for number in range(streams):
-        sender = Sender(server, 1_000 + first + number, chance)
-        expect("start", list(client.ask(start_line(1_000 + first + number))), [f"started {first + number} {number}"])
-        sender.send(sender.publication.setup())
-        senders.append(sender)
-    client.close()
-    return senders
 
 
 def send_some(senders: list[Sender], chance: Random) -> None:

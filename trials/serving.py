@@ -258,6 +258,18 @@ def start_line(session_id: int) -> str:
     return replace(STREAM, session_id=session_id).start(f"c{session_id}")
 
 
+def started(server: Server, chance: random.Random, streams: int, first: int = 0) -> list[Sender]:
+    """Has a server record so many publications. Their senders; the recording of the first has this number."""
+    client, senders = server.client(), []
+    for number in range(streams):
+        sender = Sender(server, first + number + 1, chance)
+        expect("start", list(client.ask(start_line(first + number + 1))), [f"started {first + number} {number}"])
+        sender.send(sender.publication.setup())
+        senders.append(sender)
+    client.close()
+    return senders
+
+
 def settles(archive: Path) -> int:
     """How many settles the history of an archive has that nobody serves."""
     known = read_banks(lambda name: (archive / name).read_bytes() if (archive / name).exists() else None)
