@@ -1,17 +1,17 @@
 // A sender of one stream to a served archive, for bench/serving.py. It sends as fast as what is recorded keeps up, at most 768 KiB
 // ahead of it. With --flow-control it follows the receiver's status messages, as an Aeron media driver does (examples/sender.py).
-// rustc -O sender.rs; sender CONTROL-PORT RECEIVE-PORT FRAMES FRAME-LENGTH [--flow-control], or sender alone FRAMES FRAME-LENGTH for
-// its own rate into a socket that nobody reads. Prints microseconds, NAK frames that came, frames that were sent again, where the
-// stream ends, and status messages that came.
+// rustc -O sender.rs; sender CONTROL-PORT RECEIVE-PORT FRAMES FRAME-LENGTH [--flow-control] [--term-length BYTES], or sender alone
+// FRAMES FRAME-LENGTH for its own rate into a socket that nobody reads. Terms have 16,777,216 bytes if nothing else is asked. Prints
+// microseconds, NAK frames that came, frames that were sent again, where the stream ends, and status messages that came.
 use std::io::{BufRead, BufReader, Write};
 use std::net::{TcpStream, UdpSocket};
+use std::sync::OnceLock;
 use std::time::{Duration, Instant};
 
 const SESSION: i32 = 7;
 const STREAM: i32 = 1_001;
 const INITIAL_TERM: i32 = 42;
-const TERM_LENGTH: i64 = 16_777_216;
-const SEGMENT_LENGTH: i64 = 134_217_728;
+const SHORTEST_SEGMENT: i64 = 134_217_728;
 const IN_FLIGHT: i64 = 786_432;
 const MTU: i32 = 1_408;
 const SETUP_EVERY: Duration = Duration::from_millis(100);
@@ -19,6 +19,13 @@ const HEARTBEAT_EVERY: Duration = Duration::from_millis(100);
 const RECEIVER_TIMEOUT: Duration = Duration::from_secs(5);
 const RETRANSMIT_LINGER: Duration = Duration::from_millis(60);
 const IDLE: Duration = Duration::from_millis(10);
+
+static TERM_LENGTH: OnceLock<i64> = OnceLock::new();
+
+/// Bytes of a term.
+fn term_length() -> i64 {
+    *TERM_LENGTH.get_or_init(|| 16_777_216)
+}
 
 fn put(out: &mut [u8], at: usize, value: i32) {
     out[at..at + 4].copy_from_slice(&value.to_le_bytes());
@@ -28,10 +35,10 @@ fn put(out: &mut [u8], at: usize, value: i32) {
 fn header(out: &mut [u8], position: i64, length: i32, kind: u8) {
     put(out, 0, length);
     out[4..8].copy_from_slice(&[0, 0xC0, kind, 0]);
-    put(out, 8, (position % TERM_LENGTH) as i32);
+    put(out, 8, (position % term_length()) as i32);
     put(out, 12, SESSION);
     put(out, 16, STREAM);
-    put(out, 20, INITIAL_TERM + (position / TERM_LENGTH) as i32);
+    put(out, 20, INITIAL_TERM + (position / term_length()) as i32);
     out[24..32].fill(0);
 }
 
@@ -39,9 +46,9 @@ fn setup(position: i64) -> [u8; 40] {
     let mut out = [0; 40];
     put(&mut out, 0, 40);
     out[6] = 5;
-    let active_term = INITIAL_TERM + (position / TERM_LENGTH) as i32;
-    put(&mut out, 8, (position % TERM_LENGTH) as i32);
-    for (at, value) in [(12, SESSION), (16, STREAM), (20, INITIAL_TERM), (24, active_term), (28, TERM_LENGTH as i32), (32, MTU)] {
+    let active_term = INITIAL_TERM + (position / term_length()) as i32;
+    put(&mut out, 8, (position % term_length()) as i32);
+    for (at, value) in [(12, SESSION), (16, STREAM), (20, INITIAL_TERM), (24, active_term), (28, term_length() as i32), (32, MTU)] {
         put(&mut out, at, value);
     }
     out
@@ -49,7 +56,7 @@ fn setup(position: i64) -> [u8; 40] {
 
 /// The frame at a position: a message of the usual length, or a pad where the term has no room for it.
 fn frame(out: &mut [u8], position: i64, length: i64) -> (usize, i64) {
-    let room = TERM_LENGTH - position % TERM_LENGTH;
+    let room = term_length() - position % term_length();
     if length > room {
         header(out, position, room as i32, 0);
         return (32, room);
@@ -83,7 +90,7 @@ fn number(bytes: &[u8], at: usize) -> i32 {
 }
 
 fn position_of(term: i32, offset: i32) -> i64 {
-    i64::from(term - INITIAL_TERM) * TERM_LENGTH + i64::from(offset)
+    i64::from(term - INITIAL_TERM) * term_length() + i64::from(offset)
 }
 
 /// A stream's sender, and what came from its receiver.
@@ -245,7 +252,7 @@ impl Sender {
 
     /// Whether the receiver has room for the next frame.
     fn has_room(&self) -> bool {
-        let covers = self.length.min(TERM_LENGTH - self.position % TERM_LENGTH);
+        let covers = self.length.min(term_length() - self.position % term_length());
         self.flow.as_ref().is_none_or(|flow| self.position + covers <= flow.limit)
     }
 
@@ -296,7 +303,9 @@ fn served(control: u16, receive: u16, frames: u64, length: i64, follows: bool) {
     let stream = TcpStream::connect(("127.0.0.1", control)).unwrap();
     stream.set_nodelay(true).unwrap();
     let mut asked = Asked { replies: BufReader::new(stream.try_clone().unwrap()), stream };
-    let start = format!("start {STREAM} {SESSION} {INITIAL_TERM} {TERM_LENGTH} {MTU} {SEGMENT_LENGTH} 0 1000 bench\n");
+    let terms = term_length();
+    let segments = SHORTEST_SEGMENT.max(terms);
+    let start = format!("start {STREAM} {SESSION} {INITIAL_TERM} {terms} {MTU} {segments} 0 1000 bench\n");
     assert_eq!(asked.ask(&start), "started 0 0\n");
     let mut sender = Sender::new(receive, length, follows);
     sender.connect();
@@ -332,7 +341,10 @@ fn main() {
     if words[1] == "alone" {
         alone(number(2), number(3) as i64);
     } else {
-        let follows = words.get(5).is_some_and(|word| word == "--flow-control");
+        let follows = words.iter().any(|word| word == "--flow-control");
+        if let Some(at) = words.iter().position(|word| word == "--term-length") {
+            TERM_LENGTH.set(number(at + 1) as i64).unwrap();
+        }
         served(number(1) as u16, number(2) as u16, number(3), number(4) as i64, follows);
     }
 }

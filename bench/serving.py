@@ -1,7 +1,7 @@
 #!/usr/bin/env python3
 """Measures a served archive: frames of 1,408 bytes from a sender on this machine into a folder.
 
-Usage: bench/serving.py [--frames N] [--runs N] [--beside] [program], on the file system of TRIAL_ROOM, else that of TMPDIR. First:
+Usage: bench/serving.py [--frames N] [--runs N] [--beside | --terms] [program], on the file system of TRIAL_ROOM, else that of TMPDIR. First:
 cd crates/trial_lock && rt run -- memory 1 1
 
 Four kinds of run come in turn:
@@ -12,6 +12,8 @@ Four kinds of run come in turn:
 
 With --beside these come instead: the sender with flow control alone, beside 1 and 4 clients that poll 64, 256 and 4,096 frames without
 a pause, beside 1, 4 and 10 followers, and beside 64 consumers that send `list 0 1024` and `follow` without a pause.
+With --terms these: the sender with flow control, with terms of 1 GiB, whose five sixteenths never hold it back, of 16 MiB, 1 MiB and
+64 KiB. With terms of 16 MiB it is to have 0.9 of the first rate.
 A sender sends again what is asked for, and is done when every byte is recorded. Only root may enlarge the buffer (docs/SERVING.md):
 while a server starts, `net.core.rmem_default` of the machine is 8 MiB. If it can't be set, the first two kinds are not compared.
 """
@@ -260,6 +262,12 @@ def kinds_beside() -> list[Kind]:
     return [Kind("alone", flow, server, None), *polls, *follows, asks]
 
 
+def kinds_of_terms() -> list[Kind]:
+    """The kinds of run of a sender with flow control by the lengths of its terms, the longest ones first."""
+    return [Kind(f"terms of {length} bytes", ("--flow-control", "--term-length", str(length)), ("--aeron",), None,
+                 goal=0.9 if length == 2**24 else None) for length in (2**30, 2**24, 2**20, 2**16)]
+
+
 def medians(found: list[Found]) -> Found:
     """The medians of some runs."""
     return Found(*(statistics.median(getattr(it, name) for it in found) for name in ("rate", "entries", "processor")), "")
@@ -280,11 +288,11 @@ def conclusion(served_by: dict[Kind, list[Found]], theirs: list[float]) -> int:
     return 0 if to_library >= LEAST and (to_paced >= GOAL or not is_compared) else 1
 
 
-def conclusion_beside(served_by: dict[Kind, list[Found]]) -> int:
+def conclusion_to_first(served_by: dict[Kind, list[Found]]) -> int:
     """Prints the ratio of each kind to the first one; the status."""
     found = {kind: medians(runs) for kind, runs in served_by.items()}
     alone = next(iter(found.values())).rate
-    print(f"alone {alone:,.0f} frames a second, {os.cpu_count()} processors")
+    print(f"the first {alone:,.0f} frames a second, {os.cpu_count()} processors")
     for kind, median in found.items():
         print(f"{kind.name}: {median.rate / alone:.2f}" + (f" (goal {kind.goal})" if kind.goal else ""), flush=True)
     return 0 if all(median.rate >= (kind.goal or 0) * alone for kind, median in found.items()) else 1
@@ -296,6 +304,7 @@ def main() -> int:
     words.add_argument("--frames", type=int, default=400_000)
     words.add_argument("--runs", type=int, default=5)
     words.add_argument("--beside", action="store_true", help="alone, and beside clients that poll, follow and ask")
+    words.add_argument("--terms", action="store_true", help="by the length of terms")
     asked = words.parse_args()
     tool = program(asked.program)
     with room() as work:
@@ -303,7 +312,8 @@ def main() -> int:
         alone = subprocess.run([sender, "alone", str(asked.frames), str(FRAME)], capture_output=True, text=True, check=True)
         print(f"the sender alone: {asked.frames / int(alone.stdout.split()[0]) * 1e6:,.0f} frames a second", flush=True)
         print(f"over {file_system(work)}, {asked.frames} frames of {FRAME} bytes", flush=True)
-        ours: dict[Kind, list[Found]] = {kind: [] for kind in (kinds_beside() if asked.beside else kinds())}
+        to_first = kinds_beside() if asked.beside else kinds_of_terms() if asked.terms else []
+        ours: dict[Kind, list[Found]] = {kind: [] for kind in to_first or kinds()}
         theirs = []
         for index in range(asked.runs):
             for number, kind in enumerate(ours):
@@ -311,10 +321,10 @@ def main() -> int:
                 ours[kind].append(found)
                 print(f"{kind.name}: {found.rate:,.0f} frames and {found.entries:,.0f} entries a second, {found.processor:.2f} "
                       f"microseconds of a processor for each datagram; {found.rest}", flush=True)
-            if not asked.beside:
+            if not to_first:
                 theirs.append(library(work / f"library-{index}", asked.frames))
                 print(f"by the library: {theirs[-1]:,.0f} frames a second", flush=True)
-        return conclusion_beside(ours) if asked.beside else conclusion(ours, theirs)
+        return conclusion_to_first(ours) if to_first else conclusion(ours, theirs)
 
 
 if __name__ == "__main__":

@@ -4,8 +4,8 @@ docs/SERVING.md, "Control lines".
 
 Usage: examples/client.py HOST:PORT < lines
 
-A line is sent once the one before it was answered. A reply is one line, but those of `list`, `poll` and `images`: lines that
-begin with `recording`, `frame` or `image`, and one more.
+A line is sent once the one before it was answered. A reply is one line, but those of `list`, `poll`, `images` and `replays`: lines
+that begin with `recording`, `frame`, `image` or `open`, and one more. At a line `follow`, whose answer is bytes, it ends with status 2.
 """
 import socket
 import sys
@@ -14,7 +14,9 @@ from collections.abc import Iterator
 
 
 PATIENCE = 5  # seconds in which a server may begin to listen
-LONG_REPLIES = {"list": "recording ", "poll": "frame ", "poll-to": "frame ", "images": "image "}  # all lines but the last
+LONG_REPLIES = {  # how all lines but the last begin
+    "list": "recording ", "poll": "frame ", "poll-to": "frame ", "images": "image ", "replays": "open ",
+}  # fmt: skip
 
 
 def connected(address: tuple[str, int], seconds: float) -> socket.socket:
@@ -57,6 +59,9 @@ def main() -> int:
     host, _, port = sys.argv[1].rpartition(":")
     client = Client((host, int(port)))
     for line in sys.stdin:
+        if line.startswith("follow "):
+            print("follow is answered by bytes, and not by lines alone", file=sys.stderr)
+            return 2
         for reply in client.ask(line.rstrip("\n")):
             print(reply, flush=True)
     client.close()

@@ -46,12 +46,13 @@ def fields_beside(text: str) -> list[str]:
 
 
 def versions() -> list[str]:
-    """The program's version, where the program prints one and the metrics have another."""
-    printed = re.search(r'VERSION: &str =\s*"(\S+) ', (ROOT / "crates/command_line/src/version.rt").read_text())
-    measured = re.search(r'PROGRAM_VERSION: &str = "(\S+)";', (ROOT / "crates/folder_commands/src/serving.rt").read_text())
-    if not printed or not measured:
-        return ["no version is found in command_line and folder_commands"]
-    return [] if printed[1] == measured[1] else [f"--version prints {printed[1]}, and the metrics have {measured[1]}"]
+    """The program's version and that of its catalogues, where `--version` prints others than the metrics have."""
+    text = (ROOT / "crates/command_line/src/version.rt").read_text()
+    printed = re.search(r'\bVERSION: &str =\s*"(\S+) \(catalogue (\S+),', text)
+    measured = re.findall(r'\b(?:PROGRAM|CATALOGUE)_VERSION: &str = "(\S+)";', text)
+    if not printed or len(measured) != 2:
+        return ["no versions are found in command_line"]
+    return [] if list(printed.groups()) == measured else [f"--version prints {printed.groups()}, and the metrics have {measured}"]
 
 
 def main() -> int:

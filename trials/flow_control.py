@@ -66,6 +66,13 @@ class FaultySender(FlowControlled):
     def go_to(self, position: int) -> None:
         super().go_to(position)
         self.least = 0  # consumed position that the next status message may name
+        self.is_recorded = False  # whether a status message named the whole window
+
+    def windows(self, asks_for_setup: bool) -> tuple[int, ...]:
+        """The windows that the next status message may name. Until its recording begins, a sender is admitted one frame."""
+        if asks_for_setup:
+            return (0,)
+        return (self.window,) if self.is_recorded else (self.publication.mtu, self.window)
 
     def take(self, datagram: bytes) -> None:
         """Follows a datagram. A status message has to name the right window, and a consumed position that was sent. It never falls, but
@@ -74,8 +81,10 @@ class FaultySender(FlowControlled):
         if status is not None:
             self.status_messages.append(datagram)
             expect("bytes of a status message", (len(datagram), *struct.unpack_from("<iB", datagram)), (36, 36, 0))
-            window = 0 if status.asks_for_setup else self.window
-            expect("a receiver window", status.limit - status.consumed, window)
+            window = status.limit - status.consumed
+            if window not in self.windows(status.asks_for_setup):
+                raise Fault(f"a receiver window: {window}, and not {self.window}")
+            self.is_recorded = window == self.window
             if not status.asks_for_setup and not self.least <= status.consumed <= self.position:
                 raise Fault(f"consumed {status.consumed}, after {self.least}, and sent up to {self.position}")
             self.least = 0 if status.asks_for_setup else status.consumed

@@ -252,7 +252,9 @@ def ends_and_bounds(tool: Path) -> None:
         while waiting.position == end:
             if waiting.header()[0] < 0:
                 raise Fault("a follower was closed")
-        replay = int(next(iter(client.ask("replay 0 0 -1"))).split()[1]) - 1  # the follower's was opened last
+        listed, last = client.ask("replays")
+        replay, (host, port) = int(listed.split()[1]), waiting.socket.getsockname()
+        expect("replays", [listed, last], [f"open {replay} 0 {waiting.position} -1 follow {host}:{port}", "end 1"])
         expect("its replay is the follower's", list(client.ask(f"poll {replay} 1")), ["error 9 UnknownReplay"])
         expect("and by poll-to", list(client.ask(f"poll-to {replay} 1 64")), ["error 9 UnknownReplay"])
         expect("close", list(client.ask(f"close {replay}")), ["closed"])

@@ -131,7 +131,7 @@ def killed_at_last(server: AnyServer) -> Iterator[AnyServer]:
         yield server
     finally:
         if server.process.poll() is None:
-            server.process.kill()
+            server.kill(signal.SIGKILL)
 
 
 @contextmanager

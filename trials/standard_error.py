@@ -406,6 +406,34 @@ def rows(tool: Program) -> list[Row]:
     ]
 
 
+def rows_of_times() -> list[Row]:
+    """The rows of `when`, and of a line that `ask` doesn't send."""
+    times = write("0-1.times", b"100 64\n")
+    when: Callable[[str], list[str]] = lambda time: ["when", ".", "0", time]
+    file = FAULT + "the file cannot be opened: {}\n"
+    return [
+        Row("when", when("100"), 0, "position 64 from 100 to -1\n", "", [times]),
+        Row("when, before the first line", when("99"), 1, "none before 99\n", "", [times]),
+        Row("when, of a recording without a file", when("5"), 1, "", "error 1 UnknownRecording\n", [write("1-1.times", b"1 2\n")]),
+        Row(
+            "when, at no time", when("14:31:07"), 2, "",
+            "a time is a date with its offset, as 2026-11-29T08:41:36.123Z, or milliseconds since 1970\n", [times],
+        ),
+        Row(
+            "when, of no folder", ["when", "./gone", "0", "5"], 3, "",
+            FAULT + "the folder of times cannot be read: No such file or directory\n",
+        ),
+        Row("when, of a folder in the file's place", when("5"), 3, "", file.format("unsupported"), [make_folder("0-1.times")]),
+        Row("when, of a link", when("5"), 3, "", file.format("unsupported"), [lambda folder: (folder / "0-1.times").symlink_to("/etc/hosts")]),
+        Row("when, without permission", when("5"), 3, "", file.format("Permission denied"), [times, mode("0-1.times", 0o600)], nobody=True),
+        Row(
+            "when, of a file without a line for long", when("5"), 3, "",
+            FAULT + "the file has no whole line within 524288 bytes from offset 1500000 on\n", [write("0-1.times", bytes(3_000_000))],
+        ),
+        Row("ask, follow", ["ask", "1", "sweep", "follow 0 0 64"], 2, "", "follow is answered by bytes, and not by lines alone\n"),
+    ]
+
+
 def try_row(tool: Program, row: Row) -> None:
     """Makes a folder for a row, and asks what its command tells."""
     with room() as folder:
@@ -471,6 +499,18 @@ def try_operation(tool: Program) -> None:
             expect(f"{words}", tool.run(folder, row), (row.status, row.output, row.error))
 
 
+def try_several_times(tool: Program) -> None:
+    """Two files of times that fit a recording: their names are printed, in the folder's order."""
+    with room() as folder:
+        folder.chmod(0o755)
+        for name in ("0-1.times", "0-2.times"):
+            (folder / name).write_bytes(b"1 64\n")
+        status, output, error = tool.run(folder, Row("", ["when", ".", "0", "5"], 1, "", ""))
+        names, rest = error.splitlines()[:2], error.splitlines()[2:]
+        expect("when, of two files", (status, output, sorted(names)), (1, "", ["0-1.times", "0-2.times"]))
+        expect("when, of two files: why", rest, ["error 10 BadParameter", "several files of times fit the recording"])
+
+
 def try_unread_input(tool: Program) -> None:
     """Standard input that is a folder."""
     with room() as folder:
@@ -501,7 +541,7 @@ def main() -> int:
     named = program(sys.argv[1] if len(sys.argv) > 1 else None)
     with room() as work:
         tool = Program(named, work)
-        table = rows(tool)
+        table = rows(tool) + rows_of_times()
         for row in table:
             if row.nobody and os.geteuid() != 0:
                 print(f"{row.what}: skipped, it takes a second user")
@@ -511,6 +551,7 @@ def main() -> int:
         try_use(tool)
         try_ports(tool)
         try_operation(tool)
+        try_several_times(tool)
         try_unread_input(tool)
         if shutil.which("strace"):
             try_new_folder(tool, work)

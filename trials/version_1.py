@@ -57,11 +57,9 @@ def try_compacted(tool: Path, folder: Path, next_id: int) -> None:
     expect(f"the reader's source in {folder.name}", read_banks(files_of(folder).get).register.recordings[next_id].source, SOURCE.encode())
 
 
-def try_archive(tool: Path, folder: Path, kept: Path, bank: str) -> None:
-    """Tries one of the archives."""
+def try_kept(tool: Path, folder: Path, kept: Path) -> None:
+    """Looks at a copy of an archive that is kept, and opens it."""
     files: Files = files_of(kept / "archive")
-    known = read_banks(files.get)
-    expect(f"the bank in use of {kept.name}, and its version", (known.bank, known.version), (bank, 1))
     write(folder, files)
     archive, now = looked_at(files), opened(files)
     verified = [told for each in archive.register.listed() for told in archive.answer(f"verify {each.number}")]
@@ -72,6 +70,13 @@ def try_archive(tool: Path, folder: Path, kept: Path, bank: str) -> None:
     try_told(tool, folder, kept, ["verify", "verify.txt"], [], verified)
     try_told(tool, folder, kept, ["run", "replay.txt"], replays(now), now.answers(replays(now)))
     expect(f"{kept.name} after openings", files_of(folder), after_an_opening(files))
+
+
+def try_archive(tool: Path, folder: Path, kept: Path, bank: str) -> None:
+    """Tries one of the archives."""
+    known = read_banks(files_of(kept / "archive").get)
+    expect(f"the bank in use of {kept.name}, and its version", (known.bank, known.version), (bank, 1))
+    try_kept(tool, folder, kept)
     try_compacted(tool, folder, known.register.next_id)
     print(f"{kept.name}: {len(known.entries)} entries, {len(known.register.recordings)} recordings, as they are kept")
 

@@ -9,6 +9,7 @@ INTERVAL, SAMPLES, MINUTES = 15, 120, 20  # seconds between two samples; each ca
 FIRST = "aeron_recorder_"
 IMAGE = '{image="0",stream="1001",session="7"}'
 RECORDING = '{recording="0",stream="1001",session="7"}'
+REPLAY = '{replay="0",recording="0"}'
 COLLECTED = 'instance="host:9100",job="node"'
 
 Series = dict[str, str | None]  # values by name and labels; None takes a series away
@@ -39,6 +40,8 @@ CALM: Series = {
     f"recorded_position_bytes{RECORDING}": rising(1_024), f"rebuilt_position_bytes{IMAGE}": rising(1_024, 524_288),
     f"consumed_position_bytes{IMAGE}": rising(1_024), f"gap_seconds{IMAGE}": flat(5),
     "hole_bytes_total": flat(0), "datagrams_lost_total": flat(0), "open_replays": flat(48),
+    'publications_refused_total{cause="starts"}': flat(0), 'images{rank="recorded"}': flat(56),
+    "recordings": flat(900), "recordings_limit": flat(1_000), f"replay_position_bytes{REPLAY}": rising(1_024, -67_108_864),
 }  # fmt: skip
 
 
@@ -52,14 +55,13 @@ class Case:
     is_of_both: bool = False
 
 
-def many(count: int, *, images: bool) -> Series:
-    """So many active recordings, with an image each if they are asked for."""
+def many(count: int) -> Series:
+    """So many active recordings, with an image each."""
     found: Series = {}
     for number in range(1, count):
         ids = f'stream="1001",session="{number + 7}"'
         found[f'recorded_position_bytes{{recording="{number}",{ids}}}'] = rising(1_024)
-        if images:
-            found[f'rebuilt_position_bytes{{image="{number}",{ids}}}'] = found[f'consumed_position_bytes{{image="{number}",{ids}}}'] = rising(1_024)
+        found[f'rebuilt_position_bytes{{image="{number}",{ids}}}'] = found[f'consumed_position_bytes{{image="{number}",{ids}}}'] = rising(1_024)
     return found
 
 
@@ -101,10 +103,18 @@ CASES = [
     Case("a hole from its beginning on", {"hole_bytes_total": flat(64), "start_time_seconds": LATELY}, ("Hole",)),
     Case("lost datagrams", {"datagrams_lost_total": then("0+0", 70, 3)}, ("DatagramsLost",)),
     Case("blocks that wait", {f"rebuilt_position_bytes{IMAGE}": rising(1_024, 524_320)}, ("FallsBack",)),
-    Case("56 images and recordings", many(56, images=True)),
-    Case("57 images and recordings", many(57, images=True), ("PlacesNearlyUsed", "RecordingsNearlyUsed")),
-    Case("57 recordings", many(57, images=False), ("RecordingsNearlyUsed",)),
+    Case("56 active recordings", many(56)),
+    Case("57 active recordings", many(57), ("RecordingsNearlyUsed",)),
+    Case("57 recorded images", {'images{rank="recorded"}': flat(57)}, ("PlacesNearlyUsed",)),
+    Case("57 images of others", {'images{rank="other"}': flat(57)}),
+    Case("901 of 1,000 recordings", {"recordings": flat(901)}, ("RecordingsNearlyFull",)),
+    Case("a publication that is refused", {'publications_refused_total{cause="starts"}': then("0+0", 75, 1)}, ("PublicationsRefused",)),
+    Case("one of long ago", {'publications_refused_total{cause="starts"}': flat(1)}),
     Case("49 replays", {"open_replays": flat(49)}, ("ReplaysLeftOpen",)),
+    Case("a replay that falls back", {f"replay_position_bytes{REPLAY}": rising(1_000, -67_108_864)}, ("ReplayFallsBack",)),
+    Case("one that stands still", {f"replay_position_bytes{REPLAY}": flat(-67_108_864)}, ("ReplayFallsBack",)),
+    Case("one that does, with less left", {f"replay_position_bytes{REPLAY}": flat(-60_000_000)}),
+    Case("one that has much left, and reads on", {f"replay_position_bytes{REPLAY}": rising(1_100, -90_000_000)}),
 ]  # fmt: skip
 
 

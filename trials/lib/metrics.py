@@ -7,9 +7,12 @@ from lib.tool import Fault
 
 NAME = r"aeron_recorder_[a-z_]+"
 RECORDER = r'\{recorder="[A-Za-z0-9_.-]{1,64}"'
-OWN = r'(?:,(?:recording|image)="\d+",stream="-?\d+",session="-?\d+"|,version="[^"]+",catalogue="\d+")'
+OWN = (
+    r'(?:(?:,(?:recording|image)="\d+")?,stream="-?\d+",session="-?\d+"|,replay="\d+",recording="\d+"|,version="[^"]+",catalogue="\d+"'
+    r'|,le="(?:\d\.\d{6}|\+Inf)"|,(?:cause|rank)="[a-z]+")'
+)
 LINE = re.compile(rf"({NAME}){RECORDER}({OWN})?\}} (-?\d+(?:\.\d{{6}})?)")
-HEAD = re.compile(rf"# HELP ({NAME}) (.+)\n# TYPE \1 (counter|gauge|summary)")
+HEAD = re.compile(rf"# HELP ({NAME}) (.+)\n# TYPE \1 (counter|gauge|histogram)")
 EVERY = 0.25  # seconds between two looks
 
 Values = dict[tuple[str, str], float]
@@ -27,7 +30,7 @@ def read(text: str) -> tuple[Values, set[str]]:
         if found is None:
             raise Fault(f"no head of a family: {head!r}")
         name, kind = found[1], found[3]
-        names = {f"{name}_sum", f"{name}_count"} if kind == "summary" else {name}
+        names = {f"{name}_{part}" for part in ("bucket", "sum", "count")} if kind == "histogram" else {name}
         if kind != "gauge":
             rising |= names
         for line in lines:
@@ -39,7 +42,7 @@ def read(text: str) -> tuple[Values, set[str]]:
 
 
 class Reader:
-    """Reads the file of one run again and again. Counters never fall, and each text is whole."""
+    """Reads the file of one run again and again. Counters never fall, but go with their image, and each text is whole."""
 
     def __init__(self, path: Path) -> None:
         self.path = path
@@ -77,7 +80,7 @@ class Reader:
             return
         values, rising = read(text)
         for key, value in self.values.items():
-            if key[0] in rising and values.get(key, -1) < value:
+            if key[0] in rising and values.get(key, value if "image=" in key[1] else -1) < value:
                 raise Fault(f"{key} fell from {value} to {values.get(key)}")
         for (name, labels), value in values.items():
             if name == "aeron_recorder_recorded_position_bytes":

@@ -16,6 +16,8 @@ from dataclasses import dataclass
 from pathlib import Path
 from typing import NoReturn, Protocol
 
+from lib.mounts import Skipped
+
 ROOT = Path(__file__).resolve().parent.parent.parent
 MOST_AT_ONCE = 4_096  # frames of a poll
 HISTORY_LIMIT = 1_048_576  # entries, if none is asked for
@@ -69,10 +71,13 @@ def trial_words(doc: str | None) -> argparse.ArgumentParser:
 
 
 def run_trials(trials: dict[str, Callable[[], None]], only: str | None) -> None:
-    """Runs trials in their order, or the one that was named."""
+    """Runs trials in their order, or the one that was named. One that this machine can't run is skipped, which is printed."""
     for name, trial in trials.items():
         if only in (None, name):
-            trial()
+            try:
+                trial()
+            except Skipped as why:
+                print(f"{name}: skipped, {why}", flush=True)
 
 
 def conclude(main: Callable[[], int]) -> NoReturn:

@@ -15,8 +15,8 @@ use Rattle.clap.proofs.WalkLemmas.{first_value-rows, one_text-rows, raw_values-r
 use Rattle.command_line.specs.declared.command.ToolCommand.{ToolCommand}
 use Rattle.command_line.specs.declared.asking.AskWords.{AskWords}
 use Rattle.command_line.specs.declared.serving.ServeWords.{ServeWords}
-use Rattle.command_line.specs.declared.command.ToolCommand.TheVariants.{Create, Run, Serve, Compact, List as AskList, Verify, Describe, Export, Frames, Ask}
-use Rattle.command_line.specs.CommandLine.{HasWords, IsAsked, IsAsking, IsCommand, IsDescribing, IsExporting, IsFlag, IsHeld, IsMet, IsNumber, IsNumberIf, IsSigned, IsSignedIf, IsPlain, IsPlainWord, IsServing, IsVerifying, IsWordsFault, command_word, tool_app, words_of}
+use Rattle.command_line.specs.declared.command.ToolCommand.TheVariants.{Create, Run, Serve, Compact, List as AskList, Verify, Describe, Export, Frames, Ask, When}
+use Rattle.command_line.specs.CommandLine.{HasWords, IsAsked, IsAsking, IsCommand, IsExporting, IsFlag, IsHeld, IsLookingUp, IsMet, IsNumber, IsNumberIf, IsSigned, IsSignedIf, IsPlain, IsPlainWord, IsServing, IsWordsFault, command_word, tool_app, words_of}
 
 -- what a getter gave is what the rows hold
 pub text_given : (f : Found) (id : Text) (given got : Option (Bor Text)) → option_map (λ s. s.now) given ≡ first_value f id → given ≡ got → first_of id (rows_of f) ≡ option_map (λ s. s.now) got
@@ -84,21 +84,22 @@ module _ {E : Type 0} (gives : List ℕ → Result ℤ E → Type 0) (reads : (t
   pub signed_if : (f : Found) (id : Text) (got : Option ℤ) → (one_text f id ≡ None → got ≡ None) → ((t : List ℕ) → one_text f id ≡ Some t → ReadsOne gives t got) → IsSignedIf (one_of id (rows_of f)) got
   signed_if f id got none value = subst (λ text. IsSignedIf text got) (one_text-rows f id) (may_be (one_text f id) got none value)
 
--- What the rows of a command hold, told by its word: `create`, `serve`, `export`, `run`, `frames`, `ask`, or another, which has a
--- folder.
-abbrev Holds : Bool → Bool → Bool → Bool → Bool → Bool → List Row → Type 0
-Holds true serve export run frames ask rows = (first_of (codes "folder") rows ≢ None) × (n : ℕ) × IsSomeAnd (one_of (codes "history") rows) (IsNumber n)
-Holds false true export run frames ask rows = (words : ServeWords) × IsServing rows words
-Holds false false true run frames ask rows =
+-- What the rows of a command hold, told by its word: `create`, `serve`, `export`, `run`, `frames`, `ask`, `when`, or another,
+-- which has a folder.
+abbrev Holds : Bool → Bool → Bool → Bool → Bool → Bool → Bool → List Row → Type 0
+Holds true serve export run frames ask at rows = (first_of (codes "folder") rows ≢ None) × (n : ℕ) × IsSomeAnd (one_of (codes "history") rows) (IsNumber n)
+Holds false true export run frames ask at rows = (words : ServeWords) × IsServing rows words
+Holds false false true run frames ask at rows =
     (folder : Text) × (recording : ℤ) × (from : Option ℤ) × (to : Option ℤ) × (pcap : Text) × IsExporting rows folder recording from to pcap
-Holds false false false true frames ask rows = Unit {0}
-Holds false false false false true ask rows = first_of (codes "file") rows ≢ None
-Holds false false false false false true rows = (words : AskWords) × IsAsking rows words
-Holds false false false false false false rows = first_of (codes "folder") rows ≢ None
+Holds false false false true frames ask at rows = Unit {0}
+Holds false false false false true ask at rows = first_of (codes "file") rows ≢ None
+Holds false false false false false true at rows = (words : AskWords) × IsAsking rows words
+Holds false false false false false false true rows = (folder : Text) × (recording : ℤ) × (time : Text) × IsLookingUp rows folder recording time
+Holds false false false false false false false rows = first_of (codes "folder") rows ≢ None
 
 abbrev HoldsBy : Text → List Row → Type 0
 HoldsBy word rows = Holds (bytes_eq word (codes "create")) (bytes_eq word (codes "serve")) (bytes_eq word (codes "export")) (bytes_eq word (codes "run")) (bytes_eq word (codes "frames"))
-    (bytes_eq word (codes "ask")) rows
+    (bytes_eq word (codes "ask")) (bytes_eq word (codes "when")) rows
 
 is_there : (id : Text) (rows : List Row) (text : Text) → first_of id rows ≡ Some text → first_of id rows ≢ None
 is_there id rows text is none = let bad = sym none ∙ is in cc
@@ -114,6 +115,7 @@ holds_by rows (Describe folder recording json) words = is_there (codes "folder")
 holds_by rows (Export folder recording from to pcap) words = (folder.now, recording, from, to, pcap.now, words)
 holds_by rows (Frames file) words = is_there (codes "file") rows file.now words
 holds_by rows (Ask words) asking = (words, asking)
+holds_by rows (When folder recording time) words = (folder.now, recording, time.now, words)
 
 asked_by : (word name : Text) (rows : List Row) (command : ToolCommand) → name ≡ word → IsAsked name rows command → HoldsBy word rows
 asked_by word name rows command is asked = subst (λ w. HoldsBy w rows) (sym asked.named ∙ is) (holds_by rows command asked.words)
@@ -130,6 +132,11 @@ pub no_export : (rows : List Row)
     → ((folder : Text) (recording : ℤ) (from to : Option ℤ) (pcap : Text) → IsExporting rows folder recording from to pcap → ⊥)
     → (command : ToolCommand) → IsAsked (codes "export") rows command → ⊥
 no_export rows none = lacks_words (codes "export") (codes "export") rows refl (λ (folder, recording, from, to, pcap, words). none folder recording from to pcap words)
+
+-- the same of `when`
+pub no_when : (rows : List Row) → ((folder : Text) (recording : ℤ) (time : Text) → IsLookingUp rows folder recording time → ⊥)
+    → (command : ToolCommand) → IsAsked (codes "when") rows command → ⊥
+no_when rows none = lacks_words (codes "when") (codes "when") rows refl (λ (folder, recording, time, words). none folder recording time words)
 
 -- if the rows hold no folder, they hold no command `verify` or `describe`
 pub no_folder : (word : Text) (rows : List Row) → (HoldsBy word rows ≡ (first_of (codes "folder") rows ≢ None)) → first_of (codes "folder") rows ≡ None
@@ -289,6 +296,7 @@ held_alone program (Describe folder recording json) (plain, one, flag) = rw (one
     (record { taken = describe_taken program folder.now plain; met = describe_met program folder.now folder plain refl })
 held_alone program (Export folder recording from to pcap) plain = absurd plain
 held_alone program (Ask words) plain = absurd plain
+held_alone program (When folder recording time) plain = absurd plain
 held_alone program (Frames file) plain = record { taken = frames_taken program file.now plain; met = frames_met program file.now file plain refl }
 
 pub plain_is_held : (words : List Text) (program : Text) (command : ToolCommand) → IsPlain command → words ≡ program ∷ words_of command → IsHeld words command

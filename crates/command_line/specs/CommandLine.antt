@@ -14,7 +14,7 @@ use Rattle.clap.specs.declared.error.ErrorKind.TheVariants as kinds
 use Rattle.command_line.specs.declared.command.ToolCommand.{ToolCommand}
 use Rattle.command_line.specs.declared.asking.AskWords.{AskWords}
 use Rattle.command_line.specs.declared.serving.ServeWords.{ServeWords}
-use Rattle.command_line.specs.declared.command.ToolCommand.TheVariants.{Create, Run, Serve, Compact, List as AskList, Verify, Describe, Export, Frames, Ask}
+use Rattle.command_line.specs.declared.command.ToolCommand.TheVariants.{Create, Run, Serve, Compact, List as AskList, Verify, Describe, Export, Frames, Ask, When}
 
 -- a word that has to be given
 abbrev pub required_word : Text → Rule
@@ -105,6 +105,10 @@ stream_option = record (new_rule (codes "record")) {
   parser = Some (parser.Signed (negsuc 2147483647) (pos 2147483647));
 }
 
+-- `--from`, a network, which may be given several times
+abbrev pub from_option : Rule
+from_option = record (new_rule (codes "from")) { long = Some (codes "from"); value_names = 1; action = Some Append }
+
 -- `--segment-length`, from 65536 to 1073741824, which may be given
 abbrev pub segment_option : Rule
 segment_option = record (new_rule (codes "segment-length")) {
@@ -116,6 +120,19 @@ segment_option = record (new_rule (codes "segment-length")) {
 -- `--metrics`, a file, which may be given
 abbrev pub metrics_option : Rule
 metrics_option = record (new_rule (codes "metrics")) { long = Some (codes "metrics"); value_names = 1 }
+
+-- `--times`, a folder, which may be given
+abbrev pub times_option : Rule
+times_option = record (new_rule (codes "times")) { long = Some (codes "times"); value_names = 1 }
+
+-- `--times-every`, from 10 to 60000, which is 1000 if it is not given
+abbrev pub times_every_option : Rule
+times_every_option = record (new_rule (codes "times-every")) {
+  long = Some (codes "times-every");
+  value_names = 1;
+  defaults = codes "1000" ∷ [];
+  parser = Some (parser.Signed (pos 10) (pos 60000));
+}
 
 -- `--name`, a text, which may be given
 abbrev pub name_option : Rule
@@ -161,9 +178,13 @@ serve_app = with_rule (with_rule (with_rule (with_rule (with_rule (with_rule (wi
     (flag_option (codes "aeron"))) window_option) clients_option) stream_option) segment_option) (flag_option (codes "quiet")))
     (flag_option (codes "strict"))) metrics_option) (flag_option (codes "checkpoints"))) (flag_option (codes "no-checkpoints"))) name_option) (flag_option (codes "log-times"))) (flag_option (codes "no-create"))) waiting_option
 
--- and with the options of consumers
+-- and with the options of consumers and networks
 abbrev pub consumers_app : App
-consumers_app = with_rule (with_rule serve_app consumers_option) consumers_address_option
+consumers_app = with_rule (with_rule (with_rule serve_app consumers_option) consumers_address_option) from_option
+
+-- and with those of times
+abbrev pub times_app : App
+times_app = with_rule (with_rule consumers_app times_option) times_every_option
 
 -- a number of an i64 from 0 on, which has to be given
 abbrev pub number_word : Text → Rule
@@ -183,6 +204,9 @@ file_option id = record (new_rule id) { long = Some id; value_names = 1; require
 
 abbrev pub export_app : App
 export_app = with_rule (with_rule (with_rule (with_rule (word_app (codes "export") (codes "folder")) (number_word (codes "recording"))) (position_option (codes "from"))) (position_option (codes "to"))) (file_option (codes "pcap"))
+
+abbrev pub when_app : App
+when_app = with_rule (with_rule (word_app (codes "when") (codes "folder")) (number_word (codes "recording"))) (required_word (codes "time"))
 
 -- `line`, which has to be given, once or more often
 abbrev pub lines_word : Rule
@@ -214,9 +238,9 @@ named_tool = on_top (λ s. record s { has_version = true; subcommand_required = 
 
 -- and its commands
 abbrev pub tool_app : App
-tool_app = with_subcommand (with_subcommand (with_subcommand (with_subcommand (with_subcommand (with_subcommand (with_subcommand (with_subcommand (with_subcommand (with_subcommand named_tool create_app.top) run_app.top)
-    list_app.top) verify_app.top) (word_app (codes "frames") (codes "file")).top) describe_app.top) consumers_app.top)
-    compact_app.top) export_app.top) ask_app.top
+tool_app = with_subcommand (with_subcommand (with_subcommand (with_subcommand (with_subcommand (with_subcommand (with_subcommand (with_subcommand (with_subcommand (with_subcommand (with_subcommand named_tool create_app.top) run_app.top)
+    list_app.top) verify_app.top) (word_app (codes "frames") (codes "file")).top) describe_app.top) times_app.top)
+    compact_app.top) export_app.top) ask_app.top) when_app.top
 
 -- the command is that one, and has no argument that its subcommands have too
 pub record IsCommand (app : App) (command : Command) : Type 0 where
@@ -235,6 +259,7 @@ command_word (Describe folder recording json) = codes "describe"
 command_word (Export folder recording from to pcap) = codes "export"
 command_word (Frames file) = codes "frames"
 command_word (Ask words) = codes "ask"
+command_word (When folder recording time) = codes "when"
 
 -- the text is a u32 in decimal, and this number
 abbrev pub IsNumber : ℕ → Text → Type 0
@@ -268,6 +293,10 @@ AreNumbers (text ∷ texts) (z ∷ zs) = IsStream z text × AreNumbers texts zs
 abbrev pub AreStreams : List Row → List ℤ → Type 0
 AreStreams rows streams = AreNumbers (unwrap_or (all_of (codes "record") rows) []) streams
 
+-- the texts of `--from`, in the order of the words
+abbrev pub AreNetworkTexts : List Row → List Text → Type 0
+AreNetworkTexts rows texts = unwrap_or (all_of (codes "from") rows) [] ≡ texts
+
 -- the words of `serve`
 pub record IsServing (rows : List Row) (words : ServeWords) : Type 0 where
   pub folder_is : first_of (codes "folder") rows ≡ Some words.folder.now
@@ -282,10 +311,13 @@ pub record IsServing (rows : List Row) (words : ServeWords) : Type 0 where
   pub consumers_is : IsNumberIf (one_of (codes "consumers") rows) words.consumers
   pub consumers_on_is : first_of (codes "consumers-on") rows ≡ option_map (λ address. address.now) words.consumers_on
   pub streams_are : AreStreams rows words.streams.items
+  pub networks_are : AreNetworkTexts rows (map (λ text. text.now) words.from.items)
   pub segment_is : IsNumberIf (one_of (codes "segment-length") rows) words.segment_length
   pub quiet_is : IsFlag (one_of (codes "quiet") rows) words.is_quiet
   pub strict_is : IsFlag (one_of (codes "strict") rows) words.is_strict
   pub metrics_is : first_of (codes "metrics") rows ≡ option_map (λ file. file.now) words.metrics
+  pub times_is : first_of (codes "times") rows ≡ option_map (λ folder. folder.now) words.times
+  pub times_every_is : IsSomeAnd (one_of (codes "times-every") rows) (IsNumber words.times_every)
   pub checkpoints_is : IsFlag (one_of (codes "checkpoints") rows) words.checkpoints
   pub no_checkpoints_is : IsFlag (one_of (codes "no-checkpoints") rows) words.no_checkpoints
   pub name_is : first_of (codes "name") rows ≡ option_map (λ text. text.now) words.name
@@ -311,6 +343,12 @@ pub record IsExporting (rows : List Row) (folder : Text) (recording : ℤ) (from
   pub from_is : IsSignedIf (one_of (codes "from") rows) from
   pub to_is : IsSignedIf (one_of (codes "to") rows) to
   pub pcap_is : first_of (codes "pcap") rows ≡ Some pcap
+
+-- the words of `when`
+pub record IsLookingUp (rows : List Row) (folder : Text) (recording : ℤ) (time : Text) : Type 0 where
+  pub folder_is : first_of (codes "folder") rows ≡ Some folder
+  pub recording_is : IsSomeAnd (one_of (codes "recording") rows) (IsSigned recording)
+  pub time_is : first_of (codes "time") rows ≡ Some time
 
 -- the words of `verify`
 pub record IsVerifying (rows : List Row) (folder : Text) (recording : Option ℤ) (read_only : Bool) (wait : Option ℕ) : Type 0 where
@@ -346,6 +384,7 @@ HasWords rows (Describe folder recording json) = IsDescribing rows folder.now re
 HasWords rows (Export folder recording from to pcap) = IsExporting rows folder.now recording from to pcap.now
 HasWords rows (Frames file) = first_of (codes "file") rows ≡ Some file.now
 HasWords rows (Ask words) = IsAsking rows words
+HasWords rows (When folder recording time) = IsLookingUp rows folder.now recording time.now
 
 -- a subcommand of that name, with those entries, is the command
 pub record IsAsked (name : Text) (rows : List Row) (command : ToolCommand) : Type 0 where
@@ -367,7 +406,7 @@ IsPlainWord [] = ⊥
 IsPlainWord (byte ∷ bytes) = byte ≢ 45
 
 -- the folder or file of a command is such a word, its history is the one of which no word is said, no flag is set, and it names no
--- recording and no wait; `serve`, `export` and `ask` have more words
+-- recording and no wait; `serve`, `export`, `ask` and `when` have more words
 abbrev pub IsPlain : ToolCommand → Type 0
 IsPlain (Create folder history) = IsPlainWord folder.now × (history ≡ 1048576)
 IsPlain (Run None checkpoints wait) = (checkpoints ≡ false) × (wait ≡ None)
@@ -380,6 +419,7 @@ IsPlain (Describe folder recording json) = IsPlainWord folder.now × (recording 
 IsPlain (Export folder recording from to pcap) = ⊥
 IsPlain (Frames file) = IsPlainWord file.now
 IsPlain (Ask words) = ⊥
+IsPlain (When folder recording time) = ⊥
 
 -- the word of a command, and its folder or file where it has one
 abbrev pub words_of : ToolCommand → List Text
@@ -394,6 +434,7 @@ words_of (Describe folder recording json) = codes "describe" ∷ folder.now ∷ 
 words_of (Export folder recording from to pcap) = codes "export" ∷ folder.now ∷ []
 words_of (Frames file) = codes "frames" ∷ file.now ∷ []
 words_of (Ask words) = codes "ask" ∷ []
+words_of (When folder recording time) = codes "when" ∷ folder.now ∷ []
 
 -- The kind of the error: one of those that clap gives to the words, or none that a command is missing where it takes
 -- them; else memory ran out.

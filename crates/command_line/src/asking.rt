@@ -25,7 +25,7 @@ pub struct AskWords<'a> {
 
 const ASK_HELP: &str =
     "Sends control lines to a server on this machine (`serve`), and prints what it answers, as it comes. A line of several \
-words is one word in quotes. The lines are sent at once, so with their ends they have at most 65536 bytes. With `--until` they are \
+words is one word in quotes. The lines are sent at once, so with their ends they have at most 65536 bytes. None may be `follow`, whose answer is bytes. With `--until` they are \
 sent again, 10 milliseconds after the last reply and on a new connection, until the last line that comes is that reply. \
 It has no end of its own if that reply never comes. A refused line ends it.";
 

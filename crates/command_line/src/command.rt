@@ -2,10 +2,10 @@
 
 ghost use Rattle.std.specs.Prelude.{◌≡◌, ◌≢◌, ◌∷◌, [], ℕ, List, Ok, IfOk, IfErr, MatchOption, codes, false, map, string_bytes};
 ghost use Rattle.clap.specs.Words.{AddsSubcommand, app_of, fault_of, found_of, kind_of, rows_of, rule_of, subcommand_rows_of};
-ghost use Rattle.command_line.specs.CommandLine.{IsAsked, IsCommand, IsHeld, IsMet, IsPlain, IsWordsFault, compact_app, create_app, describe_app, export_app, file_option, flag_option, history_option, list_app, named_tool, number_word, position_option, recording_word, required_word, run_app, tool_app, verify_app, waiting_option, word_app, words_of};
+ghost use Rattle.command_line.specs.CommandLine.{IsAsked, IsCommand, IsHeld, IsMet, IsPlain, IsWordsFault, compact_app, create_app, describe_app, export_app, file_option, flag_option, history_option, list_app, named_tool, number_word, position_option, recording_word, required_word, run_app, tool_app, verify_app, waiting_option, when_app, word_app, words_of};
 
 use crate::asking::{AskWords, ask, asking};
-use crate::serving::{ServeWords, serve_consumers, served};
+use crate::serving::{ServeWords, serve_times, served};
 use crate::version::VERSION;
 use clap::builder::ValueParser;
 use clap::error::ErrorKind;
@@ -76,6 +76,13 @@ pub enum ToolCommand<'a> {
     },
     /// Send control lines to a server, and print what it answers.
     Ask(AskWords<'a>),
+    /// Print where a recording stood at a time, by its file in a folder of times.
+    When {
+        folder: &'a str,
+        recording: i64,
+        /// A date, or a number of milliseconds, as it was given.
+        time: &'a str,
+    },
 }
 
 const TOOL_HELP: &str =
@@ -167,6 +174,22 @@ const EXPORT_EXAMPLE: &str =
     "Example: archive_tool export /var/lib/recorder 0 --from 65536 --pcap frames.pcap
 
 Statuses: 0 done, 1 refused, 2 a wrong command line, 3 a device fault or damage, or the file cannot be written.";
+
+const WHEN_HELP: &str =
+    "Prints where a recording stood at a time, by a folder of times that `serve --times` wrote: `position <p> from <ms> to \
+<ms>`, with the last position that was noted at or before that time, when it was noted, and when the next one was; `to -1` \
+if it is the last. If the first one is later it prints `none before <ms>`. The position is in bytes, times are in \
+milliseconds since 1970.";
+
+const WHEN_EXAMPLE: &str =
+    "Example: archive_tool when /var/lib/recorder-times 0 2026-11-29T14:31:07Z
+
+Statuses: 0 done, 1 refused or `none before`, 2 a wrong command line, 3 the file cannot be read, or standard output failed.";
+
+const TIMES_FOLDER_HELP: &str = "The folder of `serve --times`";
+
+const TIME_HELP: &str =
+    "A date with its offset, as 2026-11-29T08:41:36.123Z, or milliseconds since 1970";
 
 const READ_ONLY_HELP: &str =
     "Only reads the folder, also while another process has it open: nothing is locked, written, synced or stopped";
@@ -387,6 +410,26 @@ fn frames<'a>(alloc: Global) -> Result<Command<'a>, AllocError>
         .arg(required(alloc, "file", "A segment file of an archive"))
 }
 
+/// The command `when` with its folder.
+fn when_folder<'a>(alloc: Global) -> Result<Command<'a>, AllocError>
+    ensures { IfOk result (IsCommand (word_app (codes "when") (codes "folder"))) }
+{
+    Command::new(alloc, "when")
+        .about("Prints where a recording stood at a time")
+        .long_about(WHEN_HELP)
+        .after_help(WHEN_EXAMPLE)
+        .arg(required(alloc, "folder", TIMES_FOLDER_HELP))
+}
+
+fn when<'a>(alloc: Global) -> Result<Command<'a>, AllocError>
+    ensures { IfOk result (IsCommand when_app) }
+{
+    let command = when_folder(alloc)?;
+    command
+        .arg(recording(alloc))?
+        .arg(required(alloc, "time", TIME_HELP))
+}
+
 /// The program without its commands.
 fn named<'a>(alloc: Global) -> Command<'a>
     ensures { app_of result ≡ named_tool }
@@ -419,10 +462,11 @@ fn tool<'a>(alloc: Global) -> Result<Command<'a>, AllocError>
     let tool = with(tool, verify(alloc))?;
     let tool = with(tool, frames(alloc))?;
     let tool = with(tool, describe(alloc))?;
-    let tool = with(tool, serve_consumers(alloc))?;
+    let tool = with(tool, serve_times(alloc))?;
     let tool = with(tool, compact(alloc))?;
     let tool = with(tool, export(alloc))?;
-    with(tool, ask(alloc))
+    let tool = with(tool, ask(alloc))?;
+    with(tool, when(alloc))
 }
 
 /// The command `export` that its matches hold.
@@ -442,6 +486,22 @@ fn exported<'a>(own: &ArgMatches<'a>) -> Option<ToolCommand<'a>>
         from,
         to,
         pcap,
+    })
+}
+
+/// The command `when` that its matches hold.
+fn looked_up<'a>(own: &ArgMatches<'a>) -> Option<ToolCommand<'a>>
+    ensures { MatchOption result
+        ((command : ToolCommand) → IsAsked (codes "when") (rows_of (found_of own.now)) command → ⊥)
+        (IsAsked (codes "when") (rows_of (found_of own.now))) }
+{
+    let folder = own.get_str("folder")?;
+    let recording = own.get_one::<i64>("recording")?;
+    let time = own.get_str("time")?;
+    Some(ToolCommand::When {
+        folder,
+        recording,
+        time,
     })
 }
 
@@ -509,6 +569,7 @@ fn asked<'a>(name: &str, own: &ArgMatches<'a>) -> Option<ToolCommand<'a>>
         }),
         "verify" => verified(own),
         "describe" => described(own),
+        "when" => looked_up(own),
         "frames" => Some(ToolCommand::Frames {
             file: own.get_str("file")?,
         }),

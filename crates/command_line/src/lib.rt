@@ -11,3 +11,4 @@ pub use asking::AskWords;
 pub use command::{ToolCommand, command_of, unreadable_words};
 pub use serving::ServeWords;
 pub use usage::UsageError;
+pub use version::{CATALOGUE_VERSION, PROGRAM_VERSION};

@@ -3,7 +3,7 @@
 ghost use Rattle.std.specs.Prelude.{◌≡◌, ℤ, IfOk, List, MatchOption, codes, false, map};
 ghost use Rattle.clap.specs.Words.{found_of, rows_of, rule_of};
 ghost use Rattle.command_line.specs.declared.serving.ServeWords.{ServeWords};
-ghost use Rattle.command_line.specs.CommandLine.{AreNumbers, AreStreams, IsCommand, IsServing, address_option, clients_option, consumers_address_option, consumers_option, consumers_app, idle_option, metrics_option, name_option, port_option, segment_option, serve_app, settle_option, stream_option, window_option, word_app};
+ghost use Rattle.command_line.specs.CommandLine.{AreNetworkTexts, AreNumbers, AreStreams, IsCommand, IsServing, address_option, clients_option, consumers_address_option, consumers_app, consumers_option, from_option, idle_option, metrics_option, name_option, port_option, segment_option, serve_app, settle_option, stream_option, times_app, times_every_option, times_option, window_option, word_app};
 
 use crate::command::{CHECKPOINTS_HELP, FOLDER_HELP, flag, required, waiting};
 use clap::builder::ValueParser;
@@ -36,6 +36,8 @@ pub struct ServeWords<'a> {
     pub consumers_on: Option<&'a str>,
     /// The ids of the streams that the server records by itself, in the order of the words.
     pub streams: Vec<i32>,
+    /// The networks that datagrams are taken from, in the order of the words, as they were given.
+    pub from: Vec<&'a str>,
     /// Bytes of a segment file of these recordings. None: no word names it.
     pub segment_length: Option<u32>,
     /// Whether standard error reports faults alone.
@@ -44,6 +46,10 @@ pub struct ServeWords<'a> {
     pub is_strict: bool,
     /// The file that the metrics are written to each second, as it was given. None: there is no such file.
     pub metrics: Option<&'a str>,
+    /// The folder that times are written to, as it was given. None: there is no such folder.
+    pub times: Option<&'a str>,
+    /// Milliseconds between two lines of one recording's times at least.
+    pub times_every: u32,
     /// Whether checkpoints are asked for.
     pub checkpoints: bool,
     /// Whether a word asks for none.
@@ -61,9 +67,10 @@ pub struct ServeWords<'a> {
 const SERVE_HELP: &str =
     "Records the datagrams of Aeron publications that come by UDP into the archive of a folder. It sends NAK frames for what is \
 missing. With `--aeron` it also sends status messages, which Aeron's media drivers wait for. Control lines come by TCP, one \
-connection after another or as many at a time as `--clients` says, and are answered as those of `run`. The line `quit` ends \
-the server. Clients that only read may come to `--consumers`, also from other hosts. Standard error reports what happens. Control lines have no authentication, so they come to 127.0.0.1 alone. The \
-folder has to be on a local file system, and one process may have it open at a time.";
+connection after another or as many at a time as `--clients` says, and are answered as those of `run`. With `--aeron` or several clients \
+`follow` and `replays` are answered too: `replays` says which replays are open, and whose. The line `quit` ends the server. Clients \
+that only read may come to `--consumers`, also from other hosts. Standard error reports what happens. Control lines have no \
+authentication, so they come to 127.0.0.1 alone. The folder has to be on a local file system, and one process may have it open at a time.";
 
 const SERVE_EXAMPLE: &str =
     "Example: archive_tool serve /var/lib/recorder --control 8010 --receive 40123 --aeron
@@ -99,6 +106,10 @@ const STREAM_HELP: &str =
     "A stream that the server records by itself, without a control line; for several streams give it several \
 times, at most 64. It needs --aeron";
 
+const FROM_HELP: &str =
+    "An IPv4 address, or a network such as 10.1.0.0/16, that datagrams are taken from; for several give it several times, at most \
+16. Without it they are taken from everywhere. It needs --aeron";
+
 const SEGMENT_HELP: &str =
     "The length of the segment files of these recordings, a power of two from 65536 to 1073741824; without it \
 134217728. It needs --record";
@@ -112,6 +123,13 @@ full. Without it the server stays up, and answers lines";
 const METRICS_HELP: &str =
     "A file that metrics are written to each second, in the text format of Prometheus, as a textfile collector reads it. It \
 is written beside its place as <file>.part, and then renamed";
+
+const TIMES_FOLDER_HELP: &str =
+    "A folder in which it is noted when each recording stood where, a line for each that moved, as `when` reads it; it is no \
+part of the archive";
+
+const TIMES_EVERY_HELP: &str =
+    "How many milliseconds are between two lines of one recording at least, from 10 to 60000";
 
 const NO_CHECKPOINTS_HELP: &str =
     "Makes no checkpoints, which --aeron makes without being asked. It needs --aeron";
@@ -236,6 +254,18 @@ fn stream<'a>(alloc: Global) -> Arg<'a>
         .help(STREAM_HELP)
 }
 
+/// The option `--from`, a network, which may come several times.
+fn from<'a>(alloc: Global) -> Arg<'a>
+    ensures rule { rule_of result ≡ from_option }
+    ensures local { result.global ≡ false }
+{
+    Arg::new(alloc, "from")
+        .long("from")
+        .value_name("network")
+        .action(ArgAction::Append)
+        .help(FROM_HELP)
+}
+
 /// The option `--segment-length`, in bytes.
 fn segment_length<'a>(alloc: Global) -> Arg<'a>
     ensures rule { rule_of result ≡ segment_option }
@@ -257,6 +287,30 @@ fn metrics<'a>(alloc: Global) -> Arg<'a>
         .long("metrics")
         .value_name("file")
         .help(METRICS_HELP)
+}
+
+/// The option `--times`, a folder.
+fn times<'a>(alloc: Global) -> Arg<'a>
+    ensures rule { rule_of result ≡ times_option }
+    ensures local { result.global ≡ false }
+{
+    Arg::new(alloc, "times")
+        .long("times")
+        .value_name("folder")
+        .help(TIMES_FOLDER_HELP)
+}
+
+/// The option `--times-every`, in milliseconds.
+fn times_every<'a>(alloc: Global) -> Arg<'a>
+    ensures rule { rule_of result ≡ times_every_option }
+    ensures local { result.global ≡ false }
+{
+    Arg::new(alloc, "times-every")
+        .long("times-every")
+        .value_name("milliseconds")
+        .value_parser(ValueParser::signed(10, 60_000))
+        .default_value("1000")
+        .help(TIMES_EVERY_HELP)
 }
 
 /// The option `--name`, a text.
@@ -281,7 +335,7 @@ fn serve_folder<'a>(alloc: Global) -> Result<Command<'a>, AllocError>
         .arg(required(alloc, "folder", FOLDER_HELP))
 }
 
-/// The command `serve` without the options of consumers.
+/// The command `serve` without the options of consumers, networks and times.
 fn serve<'a>(alloc: Global) -> Result<Command<'a>, AllocError>
     ensures { IfOk result (IsCommand serve_app) }
 {
@@ -308,15 +362,26 @@ fn serve<'a>(alloc: Global) -> Result<Command<'a>, AllocError>
         .arg(waiting(alloc))
 }
 
-/// The command `serve`.
-pub(crate) fn serve_consumers<'a>(alloc: Global) -> Result<Command<'a>, AllocError>
+/// The command `serve` without the options of times.
+fn serve_consumers<'a>(alloc: Global) -> Result<Command<'a>, AllocError>
     ensures { IfOk result (IsCommand consumers_app) }
 {
     let command = serve(alloc)?;
-    command.arg(consumers(alloc))?.arg(consumers_on(alloc))
+    command
+        .arg(consumers(alloc))?
+        .arg(consumers_on(alloc))?
+        .arg(from(alloc))
 }
 
-/// The words of `serve` that its matches hold. An error: there is no memory for the streams.
+/// The command `serve`.
+pub(crate) fn serve_times<'a>(alloc: Global) -> Result<Command<'a>, AllocError>
+    ensures { IfOk result (IsCommand times_app) }
+{
+    let command = serve_consumers(alloc)?;
+    command.arg(times(alloc))?.arg(times_every(alloc))
+}
+
+/// The words of `serve` that its matches hold. An error: there is no memory for the streams or the networks.
 pub(crate) fn served<'a>(
     alloc: Global,
     own: &ArgMatches<'a>,
@@ -326,8 +391,18 @@ pub(crate) fn served<'a>(
         (IsServing (rows_of (found_of own.now)))) }
 {
     match streams_of(alloc, own)? {
-        Some(streams) => Ok(words_of(own, streams)),
+        Some(streams) => Ok(words_of(own, streams, networks_of(alloc, own)?)),
         None => Ok(None),
+    }
+}
+
+/// The texts of `--from` that matches hold, in their order.
+fn networks_of<'a>(alloc: Global, own: &ArgMatches<'a>) -> Result<Vec<&'a str>, AllocError>
+    ensures { IfOk result (λ texts. AreNetworkTexts (rows_of (found_of own.now)) (map (λ text. text.now) texts.items)) }
+{
+    match own.get_strs("from") {
+        Some(texts) => Vec::from_slice(alloc, texts),
+        None => Ok(Vec::new(alloc)),
     }
 }
 
@@ -359,9 +434,14 @@ fn numbers_of(alloc: Global, texts: &[&str]) -> Result<Option<Vec<i32>>, AllocEr
     Ok(Some(numbers))
 }
 
-/// The words of `serve` that its matches hold, with these streams.
-fn words_of<'a>(own: &ArgMatches<'a>, streams: Vec<i32>) -> Option<ServeWords<'a>>
-    requires { AreStreams (rows_of (found_of own.now)) streams.items }
+/// The words of `serve` that its matches hold, with these streams and networks.
+fn words_of<'a>(
+    own: &ArgMatches<'a>,
+    streams: Vec<i32>,
+    from: Vec<&'a str>,
+) -> Option<ServeWords<'a>>
+    requires streams { AreStreams (rows_of (found_of own.now)) streams.items }
+    requires networks { AreNetworkTexts (rows_of (found_of own.now)) (map (λ text. text.now) from.items) }
     ensures { MatchOption result
         ((words : ServeWords) → IsServing (rows_of (found_of own.now)) words → ⊥)
         (IsServing (rows_of (found_of own.now))) }
@@ -372,6 +452,7 @@ fn words_of<'a>(own: &ArgMatches<'a>, streams: Vec<i32>) -> Option<ServeWords<'a
     let receive_on = own.get_str("receive-on")?;
     let idle = own.get_one::<u32>("idle")?;
     let settle_every = own.get_one::<u32>("settle-every")?;
+    let times_every = own.get_one::<u32>("times-every")?;
     let is_aeron = own.get_flag("aeron");
     let window = own.get_one::<u32>("window");
     let clients = own.get_one::<u32>("clients");
@@ -381,6 +462,7 @@ fn words_of<'a>(own: &ArgMatches<'a>, streams: Vec<i32>) -> Option<ServeWords<'a
     let is_quiet = own.get_flag("quiet");
     let is_strict = own.get_flag("strict");
     let metrics = own.get_str("metrics");
+    let times = own.get_str("times");
     let checkpoints = own.get_flag("checkpoints");
     let no_checkpoints = own.get_flag("no-checkpoints");
     let name = own.get_str("name");
@@ -400,10 +482,13 @@ fn words_of<'a>(own: &ArgMatches<'a>, streams: Vec<i32>) -> Option<ServeWords<'a
         consumers,
         consumers_on,
         streams,
+        from,
         segment_length,
         is_quiet,
         is_strict,
         metrics,
+        times,
+        times_every,
         checkpoints,
         no_checkpoints,
         name,

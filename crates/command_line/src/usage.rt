@@ -1,8 +1,8 @@
-//! What is wrong with words of `serve` and `ask` that the command line itself allows. docs/CONTROL.md, "Standard error".
+//! What is wrong with words of `serve`, `ask` and `when` that the command line itself allows. docs/CONTROL.md, "Standard error".
 
 use std::fmt;
 
-/// What is wrong with the words of `serve` or of `ask`.
+/// What is wrong with the words of `serve`, of `ask` or of `when`.
 #[derive(Clone, Copy, Debug, PartialEq, Eq)]
 pub enum UsageError {
     /// The word of `--receive-on` is no address.
@@ -33,10 +33,20 @@ pub enum UsageError {
     ConsumersMulticast,
     /// `--consumers-on` comes without `--consumers`.
     NeedsConsumers,
+    /// `--from` comes without `--aeron`.
+    FromNeedsAeron,
+    /// `--from` comes too often.
+    Networks,
+    /// A word of `--from` is no network.
+    Network,
     /// Lines may not be sent at once.
     Lines,
+    /// A line is `follow`, whose answer is bytes.
+    Follow,
     /// The word of `--until` is more than one line.
     Until,
+    /// The word of a time names none.
+    Time,
 }
 
 impl fmt::Display for UsageError {
@@ -62,8 +72,17 @@ impl fmt::Display for UsageError {
                 "--consumers-on wants an address of this machine, not a multicast address"
             }
             UsageError::NeedsConsumers => "--consumers-on needs --consumers",
+            UsageError::FromNeedsAeron => "--from needs --aeron",
+            UsageError::Networks => "--from may be given at most 16 times",
+            UsageError::Network => {
+                "--from wants an IPv4 address, or one and a number of bits, as 10.1.0.0/16"
+            }
             UsageError::Lines => "lines have no line feed, and with their ends at most 65536 bytes",
+            UsageError::Follow => "follow is answered by bytes, and not by lines alone",
             UsageError::Until => "--until wants a line without a line feed",
+            UsageError::Time => {
+                "a time is a date with its offset, as 2026-11-29T08:41:36.123Z, or milliseconds since 1970"
+            }
         })
     }
 }

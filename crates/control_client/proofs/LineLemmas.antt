@@ -1,21 +1,28 @@
 -- Lines that are sent, and lines that come.
-use Rattle.std.proofs.Common.{◌≡◌, ◌∙◌, ℕ, ◌<◌, ◌≤◌, Bor, List, [], ◌∷◌, ◌++◌, length, take, take_all, get_or, refl, subst, sym, ap, append_assoc, append-nil, ne_eqb}
+use Rattle.std.proofs.Common.{◌≡◌, ◌∙◌, ℕ, ◌+◌, ◌<◌, ◌≤◌, Bor, List, [], ◌∷◌, ◌++◌, length, take, take_all, get_or, refl, subst, sym, ap, append_assoc, append-nil, ne_eqb}
 use Rattle.std.specs.Prelude.{◌≢◌}
 use Rattle.std.specs.List.{All}
 use Rattle.std.proofs.lemmas.Grind.{flat_map-append}
-use Rattle.std.proofs.lemmas.List.{get_or-map, length-map}
+use Rattle.std.proofs.lemmas.List.{get_or-map, length-map, map-append, take_more}
 use Rattle.std.proofs.lemmas.List.Elements.{All-head, All-nil, All-push, All-tail}
 use Rattle.control_client.specs.Lines.{HasNoEnd, ended, text_of, texts, whole_lines}
 use Rattle.control_client.specs.Tally.{Splits}
 
--- one of them has no end inside
-pub one_line : (lines : List (Bor (List ℕ))) (i : ℕ) (d : Bor (List ℕ)) → i < length lines → All HasNoEnd (texts lines) → HasNoEnd (get_or lines i d).now
-one_line lines i d within all =
-    subst HasNoEnd (get_or-map (λ text. text.now) lines i d [] within) (all i [] (rw length-map within))
+module _ (Is : List ℕ → Type 0) where
+  -- one of them is so
+  pub one_line : (lines : List (Bor (List ℕ))) (i : ℕ) (d : Bor (List ℕ)) → i < length lines → All Is (texts lines) → Is (get_or lines i d).now
+  one_line lines i d within all =
+      subst Is (get_or-map (λ text. text.now) lines i d [] within) (all i [] (rw length-map within))
 
--- all of them were seen
-pub all_lines : (lines : List (Bor (List ℕ))) (i : ℕ) → length lines ≤ i → All HasNoEnd (texts (take i lines)) → All HasNoEnd (texts lines)
-all_lines lines i within = subst (λ seen. All HasNoEnd (texts seen)) (take_all i lines within)
+  -- one more of them was seen
+  pub more_lines : (lines : List (Bor (List ℕ))) (i : ℕ) (d : Bor (List ℕ)) → i < length lines → All Is (texts (take i lines)) → Is (get_or lines i d).now → All Is (texts (take (i + 1) lines))
+  more_lines lines i d within all one =
+      subst (λ seen. All Is (texts seen)) (sym (take_more lines i d within))
+      (subst (All Is) (sym (map-append (λ text. text.now) (take i lines) (get_or lines i d ∷ []))) (All-push Is (texts (take i lines)) (get_or lines i d).now all one))
+
+  -- all of them were seen
+  pub all_lines : (lines : List (Bor (List ℕ))) (i : ℕ) → length lines ≤ i → All Is (texts (take i lines)) → All Is (texts lines)
+  all_lines lines i within = subst (λ seen. All Is (texts seen)) (take_all i lines within)
 
 -- nothing came
 pub splits_nil : Splits [] [] []

@@ -1,6 +1,6 @@
 -- The lines that are sent, and those that come: docs/CONTROL.md, "Lines".
-use Rattle.std.specs.Prelude.{◌≢◌, ◌≤◌, ◌==◌, ◌++◌, ℕ, List, [], ◌∷◌, length, map, if◌then◌else◌}
-use Rattle.std.specs.List.{All, flat_map}
+use Rattle.std.specs.Prelude.{◌≡◌, ◌≢◌, ◌≤◌, ◌==◌, ◌++◌, ℕ, Bool, false, List, [], ◌∷◌, codes, length, map, nat_eq, if◌then◌else◌}
+use Rattle.std.specs.List.{All, flat_map, starts_with}
 use Rattle.std.specs.Borrow.{Bor}
 
 -- the texts that references point to
@@ -23,6 +23,13 @@ text_of lines = flat_map ended lines
 pub record AreSendable (lines : List (List ℕ)) : Type 0 where
   pub each : All HasNoEnd lines
   pub within : length (text_of lines) ≤ 65536
+
+-- a line asks for frames, which are no lines
+abbrev pub asks_for_frames : List ℕ → Bool
+asks_for_frames line = starts_with nat_eq line (codes "follow ")
+
+abbrev pub IsAnsweredByLines : List ℕ → Type 0
+IsAnsweredByLines line = asks_for_frames line ≡ false
 
 -- the first line with one more byte in front
 abbrev pub longer_first : ℕ → List (List ℕ) → List (List ℕ)

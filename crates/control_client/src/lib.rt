@@ -13,4 +13,4 @@ mod tally;
 pub use answer::{Answer, Verdict};
 pub use asking::{Question, Server, ask};
 pub use fault::{AskFault, ConnectionFault};
-pub use lines::{MAX_SENT, are_sendable, is_line};
+pub use lines::{MAX_SENT, are_answered_by_lines, are_sendable, is_line};

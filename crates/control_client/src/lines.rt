@@ -2,7 +2,7 @@
 
 ghost use Rattle.std.specs.Prelude.{◌≡◌, ◌≤◌, ◌↔◌, IfOk, IsTrue, length};
 ghost use Rattle.std.specs.List.{All};
-ghost use Rattle.control_client.specs.Lines.{AreSendable, HasNoEnd, text_of, texts};
+ghost use Rattle.control_client.specs.Lines.{AreSendable, HasNoEnd, IsAnsweredByLines, asks_for_frames, text_of, texts};
 
 use memchr::memchr;
 use std::alloc::{AllocError, Global};
@@ -35,6 +35,32 @@ pub fn is_line(line: &str) -> bool
     ensures { IsTrue result ↔ HasNoEnd line.now }
 {
     memchr(b'\n', line.as_bytes()).is_none()
+}
+
+/// Whether each of these is answered by lines: none asks for frames. Costs a step for each.
+pub fn are_answered_by_lines(lines: &[&str]) -> bool
+    ensures { IsTrue result ↔ All IsAnsweredByLines (texts lines.now) }
+{
+    for line in lines {
+        if !is_answered_by_lines(line) {
+            return false;
+        }
+    }
+    true
+}
+
+/// Whether a line is answered by lines.
+fn is_answered_by_lines(line: &str) -> bool
+    ensures { IsTrue result ↔ IsAnsweredByLines line.now }
+{
+    !asks_for_frames(line)
+}
+
+/// Whether a line asks for frames, which come as bytes.
+fn asks_for_frames(line: &str) -> bool
+    ensures { result ≡ asks_for_frames line.now }
+{
+    line.as_bytes().starts_with(b"follow ")
 }
 
 /// Whether lines with their ends are at most `MAX_SENT` bytes.

@@ -3,11 +3,14 @@
 ghost use Rattle.std.specs.Prelude.{◌≡◌};
 ghost use Rattle.control_client.specs.Replies.{ends_reply, goes_on, is_refusal};
 
-/// Whether further lines of the same reply follow: the line of a recording, an image or a frame.
+/// Whether further lines of the same reply follow: the line of a recording, an image, a frame or an open replay.
 fn goes_on(line: &[u8]) -> bool
     ensures { result ≡ goes_on line.now }
 {
-    line.starts_with(b"recording ") || line.starts_with(b"image ") || line.starts_with(b"frame ")
+    line.starts_with(b"recording ")
+        || line.starts_with(b"image ")
+        || line.starts_with(b"frame ")
+        || line.starts_with(b"open ")
 }
 
 /// Whether the line is the last one of a reply to the line that was asked.

@@ -4,7 +4,7 @@ use Rattle.command_line.specs.declared.asking.AskWords.{AskWords}
 use Rattle.control_client.specs.declared.answer.Verdict.{Verdict}
 use Rattle.control_client.specs.declared.answer.Verdict.TheVariants as verdicts
 use Rattle.folder_commands.specs.declared.status.Ending.{Ending}
-use Rattle.folder_commands.specs.declared.status.Ending.TheVariants.{Done, Cut, Refused, Unopened, FoundDamage, LineRefused, Stuck, Hidden, NoCommand, Failed}
+use Rattle.folder_commands.specs.declared.status.Ending.TheVariants.{Done, Cut, Refused, Unopened, FoundDamage, LineRefused, NoneBefore, Stuck, Hidden, NoCommand, Failed}
 use Rattle.folder_commands.specs.Asking.{AskedUpTo, AsksServer, EndsAsking, IsUnaskable}
 
 module _ (words : AskWords) (contents written : Option (List ℕ)) (fit : IsUnaskable words → ⊥) where
@@ -13,6 +13,7 @@ module _ (words : AskWords) (contents written : Option (List ℕ)) (fit : IsUnas
   left_unanswered left (Failed kind) asked ends = (fit, inl (left, asked))
   left_unanswered left Done asked ends = absurd ends
   left_unanswered left LineRefused asked ends = absurd ends
+  left_unanswered left NoneBefore asked ends = absurd ends
   left_unanswered left (Stuck stop) asked ends = absurd ends
   left_unanswered left Hidden asked ends = absurd ends
   left_unanswered left (Cut end) asked ends = absurd ends

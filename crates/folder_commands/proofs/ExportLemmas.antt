@@ -19,7 +19,7 @@ use Rattle.archive_export.specs.Exporting.{IsLookedOn}
 use Rattle.archive_report.specs.Exported.{FailsToExportFrom, HasExportedFrom, HasLookedFrom, HasRefusedFrom}
 use Rattle.folder_commands.specs.declared.exit.Exit.{Exit}
 use Rattle.folder_commands.specs.declared.status.Ending.{Ending}
-use Rattle.folder_commands.specs.declared.status.Ending.TheVariants.{Done, Cut, Refused, Unopened, FoundDamage, LineRefused, Stuck, Hidden, NoCommand, Failed}
+use Rattle.folder_commands.specs.declared.status.Ending.TheVariants.{Done, Cut, Refused, Unopened, FoundDamage, LineRefused, NoneBefore, Stuck, Hidden, NoCommand, Failed}
 use Rattle.folder_commands.specs.Folders.{ending_in}
 use Rattle.folder_commands.specs.Looking.{ExportsFolder, FailsToCapture, HasCaptured, IsUncaptured, itself, uncaptured_ending}
 use Rattle.folder_commands.proofs.ViewLemmas.{bare}
@@ -116,6 +116,7 @@ module _ (given : Given) (recording : ℤ) (span : Span) (contents : Option (Lis
   uncaptured_so new (Unopened fault) h = (h, refl)
   uncaptured_so new FoundDamage h = (h, refl)
   uncaptured_so new LineRefused h = (h, refl)
+  uncaptured_so new NoneBefore h = (h, refl)
   uncaptured_so new (Stuck stop) h = (h, refl)
   uncaptured_so new Hidden h = (h, refl)
   uncaptured_so new (NoCommand kind) h = (h, refl)

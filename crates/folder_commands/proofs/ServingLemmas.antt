@@ -8,7 +8,7 @@ use Rattle.host_disk.specs.Events.{Given}
 use Rattle.host_disk.specs.Replay.{life_from}
 use Rattle.server.specs.declared.options.ServeOptions.{ServeOptions}
 use Rattle.folder_commands.specs.declared.status.Ending.{Ending}
-use Rattle.folder_commands.specs.declared.status.Ending.TheVariants.{Done, Cut, Refused, Stuck, Hidden, Unopened, FoundDamage, LineRefused, NoCommand, Failed}
+use Rattle.folder_commands.specs.declared.status.Ending.TheVariants.{Done, Cut, Refused, Stuck, Hidden, Unopened, FoundDamage, LineRefused, NoneBefore, NoCommand, Failed}
 use Rattle.folder_commands.specs.Folders.{IsUnopenedFolder}
 use Rattle.folder_commands.specs.Hidden.{MayHideEntries}
 use Rattle.folder_commands.specs.Serving.{AreOptions, AreWrong, HasCatalogue, HasNoEnds, IsUnbound, LacksCatalogue, LeavesUncatalogued, ServesFolder, ServesOver}
@@ -24,7 +24,8 @@ module _ (given : Given) (words : ServeWords) (looked : Option Life) (receiver :
   are_right (inr (inr (inl bad))) = bad asked.may_record
   are_right (inr (inr (inr (inl bad)))) = bad options.segment_length asked.segments
   are_right (inr (inr (inr (inr (inl bad))))) = bad options.makes_checkpoints asked.checkpoints
-  are_right (inr (inr (inr (inr (inr bad))))) = bad asked.named
+  are_right (inr (inr (inr (inr (inr (inl bad)))))) = bad asked.named
+  are_right (inr (inr (inr (inr (inr (inr bad)))))) = bad options.networks asked.networks
 
   pub not_opened : (ending : Ending) → IsUnopenedFolder ending → ServesFolder given words looked None ending
   not_opened ending (fault, is) = subst (ServesFolder given words looked None) (sym is) are_right
@@ -42,6 +43,7 @@ module _ (given : Given) (words : ServeWords) (looked : Option Life) (receiver :
       by (Unopened fault) h = absurd h
       by FoundDamage h = absurd h
       by LineRefused h = absurd h
+      by NoneBefore h = absurd h
       by (Stuck stop) h = absurd h
       by Hidden h = absurd h
       by (NoCommand kind) h = absurd h
@@ -62,6 +64,7 @@ module _ (given : Given) (words : ServeWords) (looked : Option Life) (receiver :
       by (Unopened fault) h = absurd h
       by FoundDamage h = absurd h
       by LineRefused h = absurd h
+      by NoneBefore h = absurd h
       by (Stuck stop) h = absurd h
       by Hidden h = absurd h
       by (NoCommand kind) h = absurd h
@@ -80,6 +83,7 @@ module _ (given : Given) (words : ServeWords) (looked : Option Life) (receiver :
   over_folder old new (Unopened fault) quiet there h = absurd h
   over_folder old new FoundDamage quiet there h = absurd h
   over_folder old new LineRefused quiet there h = absurd h
+  over_folder old new NoneBefore quiet there h = absurd h
   over_folder old new Hidden quiet there h = absurd h
   over_folder old new (NoCommand kind) quiet there h = absurd h
 

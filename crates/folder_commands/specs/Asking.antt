@@ -1,6 +1,7 @@
 -- What `ask` sends to a server, prints and comes to: docs/SERVING.md, "Control lines".
 use Rattle.std.specs.Prelude.{◌≡◌, ◌⊎◌, ◌<◌, ℕ, List, Option, None, Some, option_map}
 use Rattle.std.specs.Borrow.{Bor}
+use Rattle.std.specs.List.{All}
 use Rattle.clap.specs.declared.error.ErrorKind.TheVariants.{ValueValidation}
 use Rattle.tool_core.specs.declared.fault.EarlyEnd.TheVariants as ends
 use Rattle.command_line.specs.declared.asking.AskWords.{AskWords}
@@ -9,7 +10,7 @@ use Rattle.control_client.specs.declared.answer.Verdict.TheVariants as verdicts
 use Rattle.control_client.specs.declared.fault.AskFault.{AskFault}
 use Rattle.control_client.specs.declared.fault.AskFault.TheVariants as faults
 use Rattle.control_client.specs.Asking.{HasAsked, HasAskedSome}
-use Rattle.control_client.specs.Lines.{AreSendable, HasNoEnd, texts}
+use Rattle.control_client.specs.Lines.{AreSendable, HasNoEnd, IsAnsweredByLines, texts}
 use Rattle.folder_commands.specs.declared.status.Ending.{Ending}
 use Rattle.folder_commands.specs.declared.status.Ending.TheVariants.{Done, Cut, LineRefused, NoCommand, Failed}
 
@@ -20,9 +21,12 @@ abbrev pub IsOneLine : Option (Bor (List ℕ)) → Type 0
 IsOneLine None = Unit {0}
 IsOneLine (Some text) = HasNoEnd text.now
 
--- the words are wrong: the lines may not be sent at once, the awaited reply is more than one line, or the port is none
+-- the words are wrong: the lines may not be sent at once, one asks for frames, the awaited reply is more than one line, or the port
+-- is none
 abbrev pub IsUnaskable : AskWords → Type 0
-IsUnaskable words = (AreSendable (texts words.lines.items) → ⊥) ⊎ (IsOneLine words.until → ⊥) ⊎ (65535 < words.port)
+IsUnaskable words =
+    (AreSendable (texts words.lines.items) → ⊥) ⊎ (All IsAnsweredByLines (texts words.lines.items) → ⊥) ⊎ (IsOneLine words.until → ⊥)
+    ⊎ (65535 < words.port)
 
 -- ---- how it ends
 

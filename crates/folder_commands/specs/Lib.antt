@@ -7,7 +7,9 @@ pub mod SoundDisk
 pub mod Folders
 pub mod Looking
 pub mod Hidden
+pub mod Networks
 pub mod Serving
 pub mod Asking
+pub mod When
 pub mod Obeying
 pub mod Answering

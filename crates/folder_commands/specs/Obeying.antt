@@ -4,13 +4,14 @@ use Rattle.std.specs.Io.KnownBytes.{Keeps}
 use Rattle.disk_core.specs.Life.{Life}
 use Rattle.host_disk.specs.Events.{Given}
 use Rattle.command_line.specs.declared.command.ToolCommand.{ToolCommand}
-use Rattle.command_line.specs.declared.command.ToolCommand.TheVariants.{Create, Run, Serve, Compact, List as AskList, Verify, Describe, Export, Frames, Ask}
+use Rattle.command_line.specs.declared.command.ToolCommand.TheVariants.{Create, Run, Serve, Compact, List as AskList, Verify, Describe, Export, Frames, Ask, When}
 use Rattle.folder_commands.specs.declared.status.Ending.{Ending}
 use Rattle.folder_commands.specs.Asking.{AsksServer}
 use Rattle.folder_commands.specs.Folders.{CompactsFolder, ListsFile, ListsFolder, MakesArchive, RunsFolder, RunsInMemory, VerifiesFolder}
 use Rattle.folder_commands.specs.Looking.{DescribesFolder, ExportsFolder, ListsAsItStands, VerifiesAsItStands}
 use Rattle.folder_commands.specs.Serving.{ServesFolder}
 use Rattle.folder_commands.specs.Status.{handed_on}
+use Rattle.folder_commands.specs.When.{LooksUp}
 
 module _ (given : Given) (input contents written : Option (List ℕ)) (looked : Option Life) where
   -- It does what its words ask for, ends so, and leaves this of its folder: nothing if it opens none. This is the life of a folder that it
@@ -30,6 +31,7 @@ module _ (given : Given) (input contents written : Option (List ℕ)) (looked : 
       ExportsFolder given recording (record { from = from; to = to }) contents written left ending
   Obeys (Frames file) left ending = ListsFile contents written ending × (left ≡ None)
   Obeys (Ask words) left ending = AsksServer words contents written ending × (left ≡ None)
+  Obeys (When folder recording time) left ending = LooksUp time.now contents written ending × (left ≡ None)
 
 -- It does, and what it wrote was handed on, or could not be; the writer keeps it.
 pub record HasObeyed (given : Given) (input contents written : Option (List ℕ)) (command : ToolCommand) (looked left : Option Life) (ending : Ending) : Type 0 where

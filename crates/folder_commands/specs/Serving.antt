@@ -23,6 +23,7 @@ use Rattle.folder_commands.specs.declared.why.Why.{Why}
 use Rattle.folder_commands.specs.declared.why.Why.TheVariants.{Usage}
 use Rattle.folder_commands.specs.declared.status.Ending.{Ending}
 use Rattle.folder_commands.specs.Hidden.{MayHideEntries}
+use Rattle.folder_commands.specs.Networks.{HasBadNetworks, HasNetworks}
 use Rattle.folder_commands.specs.declared.status.Ending.TheVariants.{Done, Cut, Refused, Stuck, Hidden, Unopened, NoCommand, Failed}
 
 -- ---- the words
@@ -126,9 +127,9 @@ module _ (words : ServeWords) where
   abbrev pub HasBadCheckpoints : Type 0
   HasBadCheckpoints = (makes : Bool) → AsksForCheckpoints words.is_aeron words.checkpoints words.no_checkpoints makes → ⊥
 
-  -- what they say of a receiver window, of streams, of segments, of checkpoints or of a name is wrong
+  -- what they say of a receiver window, of streams, of segments, of checkpoints, of a name or of networks is wrong
   abbrev pub HasBadOptions : Type 0
-  HasBadOptions = HasBadWindow ⊎ HasBadStreams ⊎ HasBadSegments ⊎ HasBadCheckpoints ⊎ HasBadName
+  HasBadOptions = HasBadWindow ⊎ HasBadStreams ⊎ HasBadSegments ⊎ HasBadCheckpoints ⊎ HasBadName ⊎ HasBadNetworks words
 
   -- the options of a server are those of the words, with this receiver's number
   pub record AreOptions (receiver : ℤ) (options : ServeOptions) : Type 0 where
@@ -139,9 +140,10 @@ module _ (words : ServeWords) where
     pub clients : options.clients ≡ words.clients
     pub may_record : RecordsStreams
     pub streams : options.streams.now ≡ words.streams.items
+    pub networks : HasNetworks words options.networks
     pub segments : HasSegments options.segment_length
     pub strict : options.is_strict ≡ words.is_strict
-    pub measured : options.is_measured ≡ is_some words.metrics
+    pub measured : options.is_measured ≡ (is_some words.metrics || is_some words.times)
     pub checkpoints : AsksForCheckpoints words.is_aeron words.checkpoints words.no_checkpoints options.makes_checkpoints
     pub begins : options.begins_short ≡ options.makes_checkpoints
     pub named : HasName

@@ -12,7 +12,7 @@ use Rattle.archive_commands.specs.declared.commands.Stop.{Stop}
 use Rattle.archive_commands.specs.declared.commands.Stop.TheVariants as stops
 use Rattle.tool_core.specs.declared.fault.EarlyEnd.TheVariants as faults
 use Rattle.folder_commands.specs.declared.status.Ending.{Ending}
-use Rattle.folder_commands.specs.declared.status.Ending.TheVariants.{Done, Cut, Refused, Unopened, FoundDamage, LineRefused, Stuck, Hidden, NoCommand, Failed}
+use Rattle.folder_commands.specs.declared.status.Ending.TheVariants.{Done, Cut, Refused, Unopened, FoundDamage, LineRefused, NoneBefore, Stuck, Hidden, NoCommand, Failed}
 use Rattle.folder_commands.specs.declared.why.Why.{Why}
 use Rattle.folder_commands.specs.declared.why.Why.TheVariants.{Output}
 use Rattle.folder_commands.specs.Usage.{FailsToReport, IsReportedBy, words_status}
@@ -35,6 +35,7 @@ refusal_of (Unopened folders.NoMemory) = Some NoMemory
 refusal_of (Unopened fault) = Some DeviceFault
 refusal_of FoundDamage = None
 refusal_of LineRefused = None
+refusal_of NoneBefore = None
 refusal_of (Stuck stop) = None
 refusal_of Hidden = None
 refusal_of (NoCommand kinds.OutOfMemory) = Some NoMemory
@@ -43,10 +44,11 @@ refusal_of (Failed io.OutOfMemory) = Some NoMemory
 refusal_of (Failed kind) = Some DeviceFault
 
 -- the status of an ending that tells no refusal: 0 done, 3 damage and a strict server that could record nothing or did not open
--- its archive, 1 a line that a server refused, and that of words that ask for no command
+-- its archive, 1 a line that a server refused and a time before all positions, and that of words that ask for no command
 abbrev pub status_without_refusal : Ending → ℕ
 status_without_refusal FoundDamage = 3
 status_without_refusal LineRefused = 1
+status_without_refusal NoneBefore = 1
 status_without_refusal (Stuck stop) = 3
 status_without_refusal Hidden = 3
 status_without_refusal (NoCommand kind) = words_status kind
@@ -65,6 +67,7 @@ ending_of (stops.Cut end) = Cut end
 abbrev pub handed_on : Ending → Bool → Ending
 handed_on Done false = Cut faults.Write
 handed_on FoundDamage false = Cut faults.Write
+handed_on NoneBefore false = Cut faults.Write
 handed_on ending is_flushed = ending
 
 -- why a command ended, once it is known what the system said of standard output where that failed

@@ -11,7 +11,10 @@ use crate::serving::{misworded, port_of};
 use crate::status::Ending;
 use crate::why::Why;
 use command_line::{AskWords, UsageError};
-use control_client::{AskFault, ConnectionFault, Question, Server, Verdict, are_sendable, is_line};
+use control_client::{
+    AskFault, ConnectionFault, Question, Server, Verdict, are_answered_by_lines, are_sendable,
+    is_line,
+};
 use std::io::{self, ErrorKind, Write};
 use std::net::{Ipv4Addr, Net, Shutdown, SocketAddr, TcpListener, TcpStream};
 use std::rt::Clock;
@@ -81,8 +84,8 @@ pub(crate) fn ask<R: Wait + Clock + Net<Listener = TcpListener, Stream = TcpStre
     }
 }
 
-/// The port that the words name. Refused if it is none, if the lines may not be sent at once, or if the reply that has to come last
-/// is more than one line.
+/// The port that the words name. Refused if it is none, if the lines may not be sent at once, if one asks for frames, or if the
+/// reply that has to come last is more than one line.
 fn port_to_ask(words: &AskWords<'_>) -> Result<u16, Exit>
     ensures { MatchResult result
         (λ _. IsUnaskable words.now → ⊥)
@@ -90,6 +93,9 @@ fn port_to_ask(words: &AskWords<'_>) -> Result<u16, Exit>
 {
     if !are_sendable(words.lines.as_slice()) {
         return Err(misworded(UsageError::Lines));
+    }
+    if !are_answered_by_lines(words.lines.as_slice()) {
+        return Err(misworded(UsageError::Follow));
     }
     if !is_one_line(words.until) {
         return Err(misworded(UsageError::Until));

@@ -16,6 +16,7 @@ use crate::capture::export;
 use crate::exit::Exit;
 use crate::hidden::warns_of_hidden;
 use crate::looking::{describe, list_read_only};
+use crate::looking_up::when;
 use crate::observers::{FaultReporter, OpeningReporter, ScriptReporter, StartReporter};
 use crate::open_folder::{closed, stopped};
 use crate::outcome::{Left, Outcome};
@@ -127,6 +128,11 @@ fn obey<
         }
         ToolCommand::Frames { file } => Outcome::leaving(frames(rt, file, writer), None),
         ToolCommand::Ask(words) => Outcome::leaving(ask(net, rt, words, writer), None),
+        ToolCommand::When {
+            folder,
+            recording,
+            time,
+        } => Outcome::leaving(when(rt, folder, *recording, time, writer), None),
     }
 }
 

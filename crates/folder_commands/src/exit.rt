@@ -78,7 +78,7 @@ impl Exit {
         ensures { result.ending ≡ handed_on self.ending is_flushed }
     {
         match self.ending {
-            Ending::Done | Ending::FoundDamage if !is_flushed => Exit {
+            Ending::Done | Ending::FoundDamage | Ending::NoneBefore if !is_flushed => Exit {
                 ending: Ending::Cut(EarlyEnd::Write),
                 why: Why::Output(None),
             },

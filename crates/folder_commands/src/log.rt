@@ -33,6 +33,11 @@ impl<'a, R: Eprint + Clock> Log<'a, R> {
         }
     }
 
+    /// The clock that it has its times of, which prints its lines.
+    pub(crate) fn rt(&self) -> &'a R {
+        self.rt
+    }
+
     /// Prints a line.
     pub(crate) fn print<D: Display + Drop>(&self, level: Level, line: D) {
         let moment = if self.has_times {

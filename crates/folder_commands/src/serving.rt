@@ -5,6 +5,7 @@ ghost use Rattle.std.specs.Prelude.{◌≡◌, ◌&&◌, ◌≤◌, ◌<◌, ◌
 ghost use Rattle.disk_core.specs.DiskImage.{reads};
 ghost use Rattle.disk_core.specs.Life.{IsQuiet};
 ghost use Rattle.std.specs.IoError.{error_kind};
+ghost use Rattle.std.specs.Thread.{IsSend, IsSync};
 ghost use Rattle.clap.specs.declared.error.ErrorKind.TheVariants.{ValueValidation};
 ghost use Rattle.host_disk.specs.Events.{Given};
 ghost use Rattle.host_disk.specs.HostDisk.{host_life};
@@ -19,15 +20,18 @@ use crate::exit::Exit;
 use crate::flushing::FolderFlusher;
 use crate::hidden::warns_of_hidden_by;
 use crate::log::{Log, now};
+use crate::networks::networks_of;
 use crate::open_folder::closed;
 use crate::outcome::{Left, Outcome};
-use crate::reporting::{MetricsFile, ServeFaults, ServeReporter};
+use crate::reporting::{Measured, MetricsFile, ServeFaults, ServeReporter};
 use crate::status::Ending;
+use crate::times_writer::TimesWriter;
 use crate::waiting::disk_within;
 use crate::why::Why;
+use crate::writing::{Handing, Writing};
 use archive_commands::{Stop, Watched};
 use clap::error::ErrorKind;
-use command_line::{ServeWords, UsageError};
+use command_line::{CATALOGUE_VERSION, PROGRAM_VERSION, ServeWords, UsageError};
 use disk_core::{Disk, Fault, FileId};
 use flow_control::{INITIAL_WINDOW, LONGEST_WINDOW, SHORTEST_WINDOW};
 use frame_core::Refusal;
@@ -45,12 +49,8 @@ use std::path::Path;
 use std::random::RandomSource;
 use std::rt::Clock;
 use std::sync::Wait;
-use std::thread::Threads;
+use std::thread::{self, Threads};
 
-/// The program's version, as `--version` begins.
-const PROGRAM_VERSION: &str = "0.2.0";
-/// The version of the catalogues that the program writes: docs/STORAGE.md, "Banks".
-const CATALOGUE_VERSION: &str = "2";
 /// Bytes of a recorder's name at most.
 const LONGEST_NAME: usize = 64;
 /// Streams that `--record` may name at most.
@@ -106,13 +106,42 @@ pub(crate) fn serve<
     }
     let ready = with_catalogue(disk, words.no_create)?;
     let disk = Watched::new(ready, ServeFaults::new(rt.alloc(), log_of(net, words)));
+    let (disk, done) = serve_reporting(net, rt, words, ends, disk, &begun);
+    Outcome::leaving(done, closed(disk))
+}
+
+/// Serves the archive of a disk, that of the words' folder, with these options. What happens is reported, and what is measured
+/// written, as the words ask for.
+fn serve_reporting<'a, R: Threads + Wait + Clock + Eprint + Sync, D: Disk + Drop + Send>(
+    net: &'a R,
+    rt: HostRuntime,
+    words: &ServeWords<'a>,
+    ends: Ends,
+    disk: D,
+    options: &ServeOptions<'_>,
+) -> (D, Result<(), Exit>)
+    ensures { ServesOver options.now.is_strict (D.life disk) (D.life result.0) (ending_in result.1) }
+{
     let mut digits = itoa::Buffer::new();
     let label = words.name.unwrap_or(digits.format(words.receive));
-    let metrics = metrics_of(rt, words.metrics, label);
-    let reporter = ServeReporter::new(log_of(net, words), words.is_quiet, metrics);
+    let measured = measured_by(rt, words, label);
+    let handing = Handing::new();
+    let log = log_of(net, words);
+    let reporter = ServeReporter::new(log, rt, words.is_quiet, measured, &handing);
+    let folder = Path::new(words.folder);
     let flusher = FolderFlusher::<R, Brand>::new(log_of(net, words), rt, folder);
-    let (disk, done) = serve_disk(net, rt.alloc(), ends, disk, &begun, reporter, &flusher);
-    Outcome::leaving(done, closed(disk))
+    let writing = writing_of(net, rt, words);
+    serve_writing(
+        net,
+        rt.alloc(),
+        ends,
+        disk,
+        options,
+        reporter,
+        &flusher,
+        &handing,
+        writing,
+    )
 }
 
 /// The options of a server that makes no checkpoint before its first line if its catalogue may hide entries.
@@ -210,9 +239,10 @@ fn options_of<'a>(words: &'a ServeWords<'_>, receiver_id: i64) -> Result<ServeOp
         receiver_id,
         clients: words.clients,
         streams: streams_of(words)?,
+        networks: networks_of(words)?,
         segment_length: segment_length_of(words)?,
         is_strict: words.is_strict,
-        is_measured: words.metrics.is_some(),
+        is_measured: words.metrics.is_some() || words.times.is_some(),
         makes_checkpoints,
         begins_short: makes_checkpoints,
     })
@@ -480,20 +510,90 @@ fn log_of<'a, R: Eprint + Clock>(net: &'a R, words: &ServeWords<'a>) -> Log<'a, 
     Log::new(net, words.name, words.logs_times)
 }
 
-/// The metrics file of this name, of a recorder with this label that begins now. None without a name.
-fn metrics_of<'a>(
-    rt: HostRuntime,
-    name: Option<&'a str>,
-    label: &'a str,
-) -> Option<MetricsFile<'a>> {
-    let name = name?;
-    let about = RecorderAbout {
-        name: label,
-        version: PROGRAM_VERSION,
-        catalogue: CATALOGUE_VERSION,
-        started_micros: now(&rt).unsigned_abs().saturating_mul(1_000),
+/// What is measured for the files of the words, of a recorder with this label that begins now.
+fn measured_by<'a>(rt: HostRuntime, words: &ServeWords<'_>, label: &'a str) -> Measured<'a> {
+    let about = match words.metrics {
+        Some(_) => Some(RecorderAbout {
+            name: label,
+            version: PROGRAM_VERSION,
+            catalogue: CATALOGUE_VERSION,
+            started_micros: now(&rt).unsigned_abs().saturating_mul(1_000),
+        }),
+        None => None,
     };
-    Some(MetricsFile::new(rt, name, about))
+    let times_every = match words.times {
+        Some(_) => Some(u64::from(words.times_every)),
+        None => None,
+    };
+    Measured { about, times_every }
+}
+
+/// What writes the files of the words. None if they name none.
+fn writing_of<'a, R: Eprint + Clock>(
+    net: &'a R,
+    rt: HostRuntime,
+    words: &ServeWords<'a>,
+) -> Option<Writing<'a, R>> {
+    if words.metrics.is_none() && words.times.is_none() {
+        return None;
+    }
+    let metrics = match words.metrics {
+        Some(name) => Some(MetricsFile::new(rt, name)),
+        None => None,
+    };
+    let times = match words.times {
+        Some(folder) => {
+            let every = u64::from(words.times_every);
+            Some(TimesWriter::new(log_of(net, words), rt, folder, every))
+        }
+        None => None,
+    };
+    Some(Writing {
+        log: log_of(net, words),
+        metrics,
+        times,
+    })
+}
+
+/// Serves the archive of a disk as `serve_disk`, next to a thread that writes what is handed on, if there is any. Without memory for
+/// a thread nothing is written.
+fn serve_writing<
+    R: Threads + Wait + Clock + Eprint + Sync,
+    D: Disk + Drop + Send,
+    T: Reporter + Drop + Send + Sync,
+    F: Flusher + Openings<ReadFolder> + Send + Sync,
+>(
+    net: &R,
+    alloc: Global,
+    ends: Ends,
+    disk: D,
+    options: &ServeOptions<'_>,
+    reporter: T,
+    flusher: &F,
+    handing: &Handing,
+    writing: Option<Writing<'_, R>>,
+) -> (D, Result<(), Exit>)
+    ensures { ServesOver options.now.is_strict (D.life disk) (D.life result.0) (ending_in result.1) }
+{
+    let Some(mut writing) = writing else {
+        return serve_disk(net, alloc, ends, disk, options, reporter, flusher);
+    };
+    thread::scope(
+        thread::scope_env(),
+        net,
+        |scope| -> (D, Result<(), Exit>)
+            requires shared { IsSend D.row × IsSend T.row × IsSend F.row × IsSync F.row × IsSync R.row × IsSync T.row }
+            ensures { ServesOver options.entry.now.is_strict (D.life disk) (D.life result.0) (ending_in result.1) }
+        {
+            let writer = scope.spawn(move || writing.write_all(net, handing, flusher));
+            let served = serve_disk(net, alloc, ends, disk, options, reporter, flusher);
+            handing.end(net);
+            if let Ok(writer) = writer {
+                writer.join(net);
+            }
+            served
+        },
+    )
 }
 
 /// Serves the archive of a disk with these options until a line quits, or a strict server can record nothing. The disk comes

@@ -34,6 +34,8 @@ pub enum Ending {
     FoundDamage,
     /// A server refused a line, and its output says which and why.
     LineRefused,
+    /// `when` found no position at or before its time, and its output says so.
+    NoneBefore,
     /// A strict server could record nothing.
     Stuck(Stuck),
     /// A strict server did not open an archive whose catalogue may hide entries.
@@ -61,7 +63,7 @@ impl Exit {
     {
         match self.ending {
             Ending::FoundDamage => DEVICE,
-            Ending::LineRefused => REFUSED,
+            Ending::LineRefused | Ending::NoneBefore => REFUSED,
             Ending::Stuck(_) | Ending::Hidden => DEVICE,
             Ending::NoCommand(kind) => words_status(kind),
             _ => DONE,
@@ -76,6 +78,7 @@ impl Exit {
             Ending::Done
             | Ending::FoundDamage
             | Ending::LineRefused
+            | Ending::NoneBefore
             | Ending::Stuck(_)
             | Ending::Hidden => None,
             Ending::Cut(EarlyEnd::Memory) => Some(Refusal::NoMemory),

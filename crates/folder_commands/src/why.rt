@@ -3,6 +3,7 @@
 use command_line::UsageError;
 use disk_core::FileId;
 use host_disk::{FailedCall, LastFault};
+use recorded_times::TimesName;
 use std::fmt;
 use std::io::{self, Cursor, ErrorKind, Write};
 
@@ -27,6 +28,12 @@ pub enum Why {
     File(io::Error),
     /// Its file could not be read on.
     FileRead,
+    /// From this offset on its file of times has no whole line within 524,288 bytes.
+    NoLine(u64),
+    /// Its folder of times was not read.
+    TimesFolder(io::Error),
+    /// Several files of its folder of times fit its recording, which were reported.
+    SeveralTimes,
     /// The capture file could not be written; what the system says of it, if that is known.
     Capture(Option<io::Error>),
     /// The capture file would lie in the archive's folder.
@@ -73,6 +80,18 @@ impl fmt::Display for Why {
             Why::Call(fault) => write!(f, "{}", FaultLine(*fault)),
             Why::File(error) => write!(f, "the file cannot be opened: {}", SystemText(*error)),
             Why::FileRead => write!(f, "the file cannot be read on"),
+            Why::NoLine(offset) => write!(
+                f,
+                "the file has no whole line within 524288 bytes from offset {offset} on"
+            ),
+            Why::TimesFolder(error) => {
+                write!(
+                    f,
+                    "the folder of times cannot be read: {}",
+                    SystemText(*error)
+                )
+            }
+            Why::SeveralTimes => write!(f, "several files of times fit the recording"),
             Why::Capture(Some(error)) => {
                 write!(
                     f,
@@ -144,6 +163,30 @@ impl fmt::Display for MetricsFault {
             "the metrics file cannot be written: {}",
             SystemText(self.0)
         )
+    }
+}
+
+/// When recordings stood where can't be written, as the system says: of one, in its file, or of any, in their folder.
+#[derive(Clone, Copy, Drop)]
+pub(crate) struct TimesFault(pub Option<TimesName>, pub io::Error);
+
+impl fmt::Display for TimesFault {
+    fn fmt<W: fmt::Write>(&self, f: &mut fmt::Formatter<W>) -> fmt::Result {
+        let text = SystemText(self.1);
+        match self.0 {
+            Some(name) => write!(f, "the times cannot be written: {name}: {text}"),
+            None => write!(f, "the times cannot be written: the folder: {text}"),
+        }
+    }
+}
+
+/// A write of a metrics file or of times does not end.
+#[derive(Clone, Copy, Drop)]
+pub(crate) struct LateFault;
+
+impl fmt::Display for LateFault {
+    fn fmt<W: fmt::Write>(&self, f: &mut fmt::Formatter<W>) -> fmt::Result {
+        f.write_str("a write of the metrics or the times has not ended for 10 seconds")
     }
 }
 

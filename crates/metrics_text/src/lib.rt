@@ -2,13 +2,19 @@
 #![tactic(auto)]
 
 mod about;
+mod histogram;
 mod image_family;
 mod measures;
+mod places;
 mod print;
+mod publication_holes;
+mod settle_times;
 
 pub use about::RecorderAbout;
 pub use measures::{
     ArchiveMeasures, ClientMeasures, DatagramMeasures, ImageMeasures, Measures, RecorderMeasures,
-    RecordingMeasures, ResumeMeasures,
+    RecordingMeasures, ReplayMeasures, ResumeMeasures,
 };
+pub use places::{PlaceMeasures, RefusedMeasures};
 pub use print::print_metrics;
+pub use settle_times::{SettleBucket, SettleTimes};

@@ -1,5 +1,8 @@
 //! What is measured of a server: docs/SERVING.md, "Metrics".
 
+use crate::places::PlaceMeasures;
+use crate::settle_times::SettleTimes;
+
 /// What is measured of a server's archive.
 #[derive(Clone, Copy, Debug, PartialEq, Eq)]
 pub struct ArchiveMeasures {
@@ -26,12 +29,8 @@ pub struct RecorderMeasures {
     pub bytes: u64,
     /// Data and pad frames that were written.
     pub frames: u64,
-    /// Settles that were made.
-    pub settles: u64,
-    /// Microseconds that they took in all.
-    pub settle_micros: u64,
-    /// Microseconds that the longest of them took.
-    pub longest_micros: u64,
+    /// Settles that were made, and how long they took.
+    pub settles: SettleTimes,
 }
 
 /// What is measured of datagrams.
@@ -73,6 +72,10 @@ pub struct ResumeMeasures {
 pub struct ClientMeasures {
     /// Connections that were taken.
     pub connections: u64,
+    /// Clients of the control port that are served.
+    pub clients: u64,
+    /// How many of them are served at a time at most.
+    pub places: u64,
     /// Polls that were answered.
     pub polls: u64,
     /// Replays that are open.
@@ -92,6 +95,17 @@ pub struct RecordingMeasures {
     pub recorded: i64,
 }
 
+/// What is measured of an open replay.
+#[derive(Clone, Copy, Debug, PartialEq, Eq)]
+pub struct ReplayMeasures {
+    /// Its number.
+    pub replay: i64,
+    /// The recording that it gives.
+    pub recording: i64,
+    /// Where its next frame begins, in bytes of the stream.
+    pub next: i64,
+}
+
 /// What is measured of an image.
 #[derive(Clone, Copy, Debug, PartialEq, Eq)]
 pub struct ImageMeasures {
@@ -107,6 +121,18 @@ pub struct ImageMeasures {
     pub consumed: i64,
     /// Microseconds for which its first gap has stood; 0 if nothing is missing.
     pub gap_micros: u64,
+    /// Bytes of its first gap that are asked for; 0 if nothing is missing.
+    pub gap_bytes: u64,
+    /// Bytes of holes between recordings of its publication that were seen.
+    pub hole_bytes: u64,
+    /// Datagrams of its publication that came since it joined.
+    pub datagrams: u64,
+    /// NAK frames that were sent for it.
+    pub naks: u64,
+    /// Datagrams that were lost past its stock.
+    pub lost: u64,
+    /// Microseconds since its last datagram came.
+    pub silent_micros: u64,
 }
 
 /// What is measured of a server, at one moment.
@@ -116,9 +142,12 @@ pub struct Measures {
     pub recorder: RecorderMeasures,
     pub datagrams: DatagramMeasures,
     pub resumes: ResumeMeasures,
+    pub places: PlaceMeasures,
     pub clients: ClientMeasures,
     /// Of each active recording that has a seat.
     pub recordings: Vec<RecordingMeasures>,
+    /// Of each open replay whose next position is known.
+    pub replays: Vec<ReplayMeasures>,
     /// Of each image.
     pub images: Vec<ImageMeasures>,
 }

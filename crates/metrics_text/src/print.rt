@@ -2,19 +2,27 @@
 
 ghost use Rattle.std.specs.Prelude.{◌≡◌, ◌++◌, OnOk, IfOk, codes, decimal, string_bytes};
 ghost use Rattle.std.specs.List.{flat_map};
-ghost use Rattle.metrics_text.specs.MetricsText.{about_families, build_family, build_labels, build_line, client_families, counter, fact, family_text, gauge, head, history_families, hole_families, image_family, image_labels, image_metric_line, image_number, line, measures_text, metrics_text, own_labels, position_text, received_families, recorded_family, recorded_line, recorder_families, recording_labels, resume_families, seconds, sent_families, start_family, state_families, summary};
+ghost use Rattle.metrics_text.specs.MetricsText.{about_families, build_family, build_labels, build_line, client_families, counter, fact, family_text, gauge, head, history_families, hole_families, image_family, image_labels, image_metric_line, image_number, line, measures_text, metrics_text, own_labels, place_text, poll_families, position_text, received_families, received_image_text, recorded_family, recorded_line, recorder_families, recording_labels, replay_family, replay_labels, replay_line, resume_families, seconds, sent_families, start_family, state_families};
 
 use crate::about::RecorderAbout;
+use crate::histogram::put_histogram;
 use crate::image_family::ImageFamily;
 use crate::measures::{
     ArchiveMeasures, ClientMeasures, DatagramMeasures, ImageMeasures, Measures, RecorderMeasures,
-    RecordingMeasures, ResumeMeasures,
+    RecordingMeasures, ReplayMeasures, ResumeMeasures,
 };
+use crate::places::put_places;
+use crate::publication_holes::put_publication_holes;
 use std::alloc::{AllocError, Global};
 
 /// The two lines that say what a family is.
 #[tactic(auto, unfolding(crate::specs::MetricsText::head))]
-fn put_head(out: &mut String, kind: &str, name: &str, help: &str) -> Result<(), AllocError>
+pub(crate) fn put_head(
+    out: &mut String,
+    kind: &str,
+    name: &str,
+    help: &str,
+) -> Result<(), AllocError>
     ensures { OnOk result
         (string_bytes out.new ≡ string_bytes out.old ++ head kind.now name.now help.now) }
 {
@@ -23,7 +31,7 @@ fn put_head(out: &mut String, kind: &str, name: &str, help: &str) -> Result<(), 
 
 /// Microseconds as seconds.
 #[tactic(auto, unfolding(crate::specs::MetricsText::seconds))]
-fn put_seconds(out: &mut String, micros: u64) -> Result<(), AllocError>
+pub(crate) fn put_seconds(out: &mut String, micros: u64) -> Result<(), AllocError>
     ensures { OnOk result (string_bytes out.new ≡ string_bytes out.old ++ seconds micros) }
 {
     write!(
@@ -55,7 +63,12 @@ fn put_name(out: &mut String, who: &str, name: &str) -> Result<(), AllocError>
 }
 
 /// The line of how many microseconds they took in all.
-fn put_sum(out: &mut String, who: &str, name: &str, micros: u64) -> Result<(), AllocError>
+pub(crate) fn put_sum(
+    out: &mut String,
+    who: &str,
+    name: &str,
+    micros: u64,
+) -> Result<(), AllocError>
     ensures { OnOk result (string_bytes out.new
         ≡ string_bytes out.old ++ line (name.now ++ codes "_sum") (own_labels who.now) (seconds micros)) }
 {
@@ -67,7 +80,12 @@ fn put_sum(out: &mut String, who: &str, name: &str, micros: u64) -> Result<(), A
 }
 
 /// The line of how many there were.
-fn put_count(out: &mut String, who: &str, name: &str, count: u64) -> Result<(), AllocError>
+pub(crate) fn put_count(
+    out: &mut String,
+    who: &str,
+    name: &str,
+    count: u64,
+) -> Result<(), AllocError>
     ensures { OnOk result (string_bytes out.new
         ≡ string_bytes out.old ++ line (name.now ++ codes "_count") (own_labels who.now) (decimal count)) }
 {
@@ -78,7 +96,7 @@ fn put_count(out: &mut String, who: &str, name: &str, count: u64) -> Result<(), 
 
 /// A family of a number that never falls.
 #[tactic(auto, unfolding(crate::specs::MetricsText::family_text))]
-fn put_counter(
+pub(crate) fn put_counter(
     out: &mut String,
     who: &str,
     name: &str,
@@ -95,7 +113,7 @@ fn put_counter(
 
 /// A family of a number that may fall.
 #[tactic(auto, unfolding(crate::specs::MetricsText::family_text))]
-fn put_gauge(
+pub(crate) fn put_gauge(
     out: &mut String,
     who: &str,
     name: &str,
@@ -145,24 +163,6 @@ fn put_time(
     out.push_str(" ")?;
     put_seconds(out, micros)?;
     out.push_str("\n")
-}
-
-/// A family of how many there were, and how many microseconds they took.
-#[tactic(auto, unfolding(crate::specs::MetricsText::family_text))]
-fn put_summary(
-    out: &mut String,
-    who: &str,
-    name: &str,
-    help: &str,
-    micros: u64,
-    count: u64,
-) -> Result<(), AllocError>
-    ensures { OnOk result
-        (string_bytes out.new ≡ string_bytes out.old ++ family_text (summary who.now name.now help.now micros count)) }
-{
-    put_head(out, "summary", name, help)?;
-    put_sum(out, who, name, micros)?;
-    put_count(out, who, name, count)
 }
 
 fn put_state(out: &mut String, who: &str, archive: &ArchiveMeasures) -> Result<(), AllocError>
@@ -244,20 +244,12 @@ fn put_recorder(out: &mut String, who: &str, recorder: &RecorderMeasures) -> Res
         "Frames that were written.",
         recorder.frames,
     )?;
-    put_summary(
+    put_histogram(
         out,
         who,
         "aeron_recorder_settle_seconds",
         "Settles, and how long they took.",
-        recorder.settle_micros,
-        recorder.settles,
-    )?;
-    put_time(
-        out,
-        who,
-        "aeron_recorder_settle_longest_seconds",
-        "How long the longest settle took.",
-        recorder.longest_micros,
+        &recorder.settles,
     )
 }
 
@@ -380,6 +372,26 @@ fn put_clients(out: &mut String, who: &str, clients: &ClientMeasures) -> Result<
         "Connections that were taken.",
         clients.connections,
     )?;
+    put_gauge(
+        out,
+        who,
+        "aeron_recorder_clients",
+        "Clients of the control port that are served.",
+        clients.clients,
+    )?;
+    put_gauge(
+        out,
+        who,
+        "aeron_recorder_client_places",
+        "Clients of the control port that are served at a time at most.",
+        clients.places,
+    )
+}
+
+fn put_polls(out: &mut String, who: &str, clients: &ClientMeasures) -> Result<(), AllocError>
+    ensures { OnOk result (string_bytes out.new
+        ≡ string_bytes out.old ++ flat_map family_text (poll_families who.now clients.now)) }
+{
     put_counter(
         out,
         who,
@@ -466,7 +478,55 @@ fn put_recorded(
     put_recorded_lines(out, who, recordings)
 }
 
+fn put_replay_labels(out: &mut String, who: &str, replay: &ReplayMeasures) -> Result<(), AllocError>
+    ensures { OnOk result (string_bytes out.new ≡ string_bytes out.old ++ replay_labels who.now replay.now) }
+{
+    write!(
+        out,
+        "{{recorder=\"{who}\",replay=\"{}\",recording=\"{}\"}}",
+        replay.replay, replay.recording,
+    )
+}
+
+#[tactic(auto, unfolding(crate::specs::MetricsText::replay_line))]
+fn put_replay_line(out: &mut String, who: &str, replay: &ReplayMeasures) -> Result<(), AllocError>
+    ensures { OnOk result (string_bytes out.new ≡ string_bytes out.old ++ replay_line who.now replay.now) }
+{
+    out.push_str("aeron_recorder_replay_position_bytes")?;
+    put_replay_labels(out, who, replay)?;
+    writeln!(out, " {}", replay.next)
+}
+
+fn put_replay_lines(
+    out: &mut String,
+    who: &str,
+    replays: &[ReplayMeasures],
+) -> Result<(), AllocError>
+    ensures { OnOk result (string_bytes out.new
+        ≡ string_bytes out.old ++ flat_map (replay_line who.now) replays.now) }
+{
+    for replay in replays {
+        put_replay_line(out, who, replay)?;
+    }
+    Ok(())
+}
+
+#[tactic(auto, unfolding(crate::specs::MetricsText::family_text))]
+fn put_replays(out: &mut String, who: &str, replays: &[ReplayMeasures]) -> Result<(), AllocError>
+    ensures { OnOk result
+        (string_bytes out.new ≡ string_bytes out.old ++ family_text (replay_family who.now replays.now)) }
+{
+    put_head(
+        out,
+        "gauge",
+        "aeron_recorder_replay_position_bytes",
+        "Where the next frame of an open replay begins.",
+    )?;
+    put_replay_lines(out, who, replays)
+}
+
 /// An image's number in a family.
+#[tactic(auto, unfolding(crate::specs::MetricsText::image_number))]
 fn put_image_number(
     out: &mut String,
     family: ImageFamily,
@@ -479,6 +539,11 @@ fn put_image_number(
         ImageFamily::Rebuilt => write!(out, "{}", image.rebuilt),
         ImageFamily::Consumed => write!(out, "{}", image.consumed),
         ImageFamily::Gap => put_seconds(out, image.gap_micros),
+        ImageFamily::GapBytes => write!(out, "{}", image.gap_bytes),
+        ImageFamily::Datagrams => write!(out, "{}", image.datagrams),
+        ImageFamily::Naks => write!(out, "{}", image.naks),
+        ImageFamily::Lost => write!(out, "{}", image.lost),
+        ImageFamily::LastDatagram => put_seconds(out, image.silent_micros),
     }
 }
 
@@ -527,7 +592,7 @@ fn put_image_family(
     ensures { OnOk result
         (string_bytes out.new ≡ string_bytes out.old ++ family_text (image_family who.now family images.now)) }
 {
-    put_head(out, "gauge", family.name(), family.help())?;
+    put_head(out, family.kind(), family.name(), family.help())?;
     put_image_lines(out, who, family, images)
 }
 
@@ -543,7 +608,22 @@ fn put_positions(
     put_recorded(out, who, recordings)?;
     put_image_family(out, who, ImageFamily::Rebuilt, images)?;
     put_image_family(out, who, ImageFamily::Consumed, images)?;
-    put_image_family(out, who, ImageFamily::Gap, images)
+    put_image_family(out, who, ImageFamily::Gap, images)?;
+    put_image_family(out, who, ImageFamily::GapBytes, images)
+}
+
+fn put_received_images(
+    out: &mut String,
+    who: &str,
+    images: &[ImageMeasures],
+) -> Result<(), AllocError>
+    ensures { OnOk result (string_bytes out.new
+        ≡ string_bytes out.old ++ received_image_text who.now images.now) }
+{
+    put_image_family(out, who, ImageFamily::Datagrams, images)?;
+    put_image_family(out, who, ImageFamily::Naks, images)?;
+    put_image_family(out, who, ImageFamily::Lost, images)?;
+    put_image_family(out, who, ImageFamily::LastDatagram, images)
 }
 
 /// Which program runs.
@@ -606,13 +686,18 @@ fn put_measures(out: &mut String, who: &str, measures: &Measures) -> Result<(), 
     put_sent(out, who, &measures.datagrams)?;
     put_holes(out, who, &measures.resumes)?;
     put_resumes(out, who, &measures.resumes)?;
+    put_places(out, who, &measures.places)?;
     put_clients(out, who, &measures.clients)?;
+    put_polls(out, who, &measures.clients)?;
+    put_replays(out, who, measures.replays.as_slice())?;
     put_positions(
         out,
         who,
         measures.recordings.as_slice(),
         measures.images.as_slice(),
-    )
+    )?;
+    put_received_images(out, who, measures.images.as_slice())?;
+    put_publication_holes(out, who, measures.images.as_slice())
 }
 
 /// The text of measures of a recorder, each line with its end: docs/SERVING.md, "Metrics". An error: there is no memory for it. Costs

@@ -1,18 +1,17 @@
 -- The first bytes of a connection on which another protocol is spoken: docs/SERVING.md, "Control lines".
-use Rattle.std.specs.Prelude.{◌||◌, ℕ, Bool, List, [], ◌∷◌, codes, nat_eq}
-use Rattle.std.specs.List.{starts_with}
+use Rattle.std.specs.Prelude.{ℕ, Bool, List, [], ◌∷◌, codes, nat_eq}
+use Rattle.std.specs.List.{list_any, starts_with}
 
--- some word of HTTP or TLS is so: a method and a blank, the beginning of HTTP/2's preface, or the first byte of a handshake
-abbrev pub some_foreign_word : (List ℕ → Bool) → Bool
-some_foreign_word is_so =
-    is_so (codes "GET ") || (is_so (codes "POST ") || (is_so (codes "HEAD ") || (is_so (codes "PUT ") || (is_so (codes "DELETE ")
-    || (is_so (codes "OPTIONS ") || (is_so (codes "CONNECT ") || (is_so (codes "PATCH ") || (is_so (codes "TRACE ")
-    || (is_so (codes "PRI ") || is_so (22 ∷ []))))))))))
+-- words of HTTP and TLS: a method and a blank, the beginning of HTTP/2's preface, and the first byte of a handshake
+abbrev pub foreign_words : List (List ℕ)
+foreign_words =
+    codes "GET " ∷ codes "POST " ∷ codes "HEAD " ∷ codes "PUT " ∷ codes "DELETE " ∷ codes "OPTIONS " ∷ codes "CONNECT " ∷ codes "PATCH "
+    ∷ codes "TRACE " ∷ codes "PRI " ∷ (22 ∷ []) ∷ []
 
 -- bytes begin with such a word
 abbrev pub is_foreign : List ℕ → Bool
-is_foreign bytes = some_foreign_word (starts_with nat_eq bytes)
+is_foreign bytes = list_any (λ word. starts_with nat_eq bytes word) foreign_words
 
 -- or they may once more of them come
 abbrev pub may_be_foreign : List ℕ → Bool
-may_be_foreign bytes = some_foreign_word (λ word. starts_with nat_eq word bytes)
+may_be_foreign bytes = list_any (λ word. starts_with nat_eq word bytes) foreign_words

@@ -1,19 +1,30 @@
--- Where the lines `images` and `follow` are in what a client sends: docs/SERVING.md, "Which images there are" and "Consumers".
+-- Where the lines `images`, `replays` and `follow` are in what a client sends: docs/SERVING.md, "Which images there are", "Which
+-- replays are open" and "Consumers".
 use Rattle.std.specs.Prelude.{◌+◌, ◌&&◌, ◌||◌, ◌==◌, ℕ, Bool, List, [], ◌∷◌, bytes_eq, codes, length, nat_eq, nat_le, nat_lt, not, take, if◌then◌else◌}
 use Rattle.std.specs.List.{list_any, starts_with}
 use Rattle.server.specs.declared.script_reader.OwnLines.{OwnLines}
 
--- the line `images`, and its word
-abbrev pub images_line : List ℕ
-images_line = codes "images\n"
-
--- bytes begin with the line `images`; of a client that sends no more its end may be missing
-abbrev pub is_images : Bool → List ℕ → Bool
-is_images has_ended bytes = starts_with nat_eq bytes images_line || (has_ended && bytes_eq bytes (codes "images"))
+-- bytes begin with a line of one word; of a client that sends no more its end may be missing
+abbrev pub is_line : List ℕ → List ℕ → Bool → List ℕ → Bool
+is_line line word has_ended bytes = starts_with nat_eq bytes line || (has_ended && bytes_eq bytes word)
 
 -- or they may once more of them come
+abbrev pub may_be_line : List ℕ → List ℕ → Bool → List ℕ → Bool
+may_be_line line word has_ended bytes = is_line line word has_ended bytes || (not has_ended && starts_with nat_eq line bytes)
+
+-- the line `images`
+abbrev pub is_images : Bool → List ℕ → Bool
+is_images = is_line (codes "images\n") (codes "images")
+
 abbrev pub may_be_images : Bool → List ℕ → Bool
-may_be_images has_ended bytes = is_images has_ended bytes || (not has_ended && starts_with nat_eq images_line bytes)
+may_be_images = may_be_line (codes "images\n") (codes "images")
+
+-- the line `replays`
+abbrev pub is_replays : Bool → List ℕ → Bool
+is_replays = is_line (codes "replays\n") (codes "replays")
+
+abbrev pub may_be_replays : Bool → List ℕ → Bool
+may_be_replays = may_be_line (codes "replays\n") (codes "replays")
 
 -- how a line begins that asks for frames
 abbrev pub follow_word : List ℕ
@@ -37,7 +48,9 @@ may_be_follow has_ended bytes = is_follow has_ended bytes || (not has_ended && m
 
 -- bytes begin with a line that the server answers by itself, or may once more of them come
 abbrev pub may_be_own : OwnLines → Bool → List ℕ → Bool
-may_be_own own has_ended bytes = (own.images && may_be_images has_ended bytes) || (own.follow && may_be_follow has_ended bytes)
+may_be_own own has_ended bytes =
+    (own.images && may_be_images has_ended bytes) || (own.replays && may_be_replays has_ended bytes)
+    || (own.follow && may_be_follow has_ended bytes)
 
 -- how many bytes stand before such a line, or before what may become one; whether the first one begins a line is given
 abbrev pub script_length : OwnLines → Bool → Bool → List ℕ → ℕ

@@ -20,6 +20,7 @@ use server_state::{ClientNews, Happening, Reporter};
 use std::alloc::Global;
 use std::marker::{Model, PhantomData};
 use std::mem;
+use std::net::SocketAddr;
 use std::sync::Wait;
 use tool_core::{Answerer, CheckpointOutcome};
 
@@ -29,6 +30,8 @@ pub(crate) struct NotedArchive<'a, D: Disk, A: Naming, R, T> {
     pub rt: &'a R,
     pub archive: &'a SharedArchive<D, A>,
     pub with: &'a Connections<T>,
+    /// Where the connection comes from whose lines are answered, if that is known.
+    pub address: Option<SocketAddr>,
     /// Whether positions that are asked for wait for a settling, and ask for the next one.
     pub settles: bool,
 }
@@ -135,7 +138,14 @@ impl<'a, D: Disk, A: Naming, R: Wait, T: Reporter> NotedArchive<'a, D, A, R, T> 
 
     /// Notes what a call was answered, beside the history.
     fn note(&self, event: &Event, outcome: &Result<Reply, Refusal>) {
-        self.with.shared.meter.note_call(event, outcome);
+        self.with.shared.meter.note_call(outcome);
+        self.with
+            .shared
+            .replays
+            .note(self.rt, event, outcome, self.address);
+        self.with
+            .shared
+            .report_holders(self.rt, self.with.alloc, event, outcome);
         self.with.shared.report_wrong_word(event, outcome);
         if self.with.shared.note(self.rt, event, outcome) {
             self.with.shared.look_round(&self.with.socket);
@@ -474,6 +484,10 @@ impl<D: Disk, A: Naming, P: Place, R: Wait, T: Reporter> Answerer
 
 impl<D: Disk, A: Naming, P: Place, R: Wait, T: Reporter> Server for Controller<'_, D, A, P, R, T> {
     ghost ended = { EndsConnection D.life A.opening };
+
+    fn begin_connection(&mut self, address: Option<SocketAddr>) {
+        self.noted.address = address;
+    }
 
     fn end_connection(&mut self, alloc: Global, closes_replays: bool) {
         let replays = mem::replace(&mut self.replays, Vec::new(alloc));

@@ -6,7 +6,7 @@ use server_state::Reporter;
 use std::alloc::{AllocError, Global};
 use std::cell::Cell;
 use std::io::{self, ErrorKind, Read, Write};
-use std::net::TcpStream;
+use std::net::{SocketAddr, TcpStream};
 use std::rt::Clock;
 use std::sync::{Mutex, Wait};
 use std::time::{Duration, Instant};
@@ -29,6 +29,8 @@ pub(crate) struct Client<'a, R, T> {
     with: &'a Connections<T>,
     port: &'a Port,
     stream: TcpStream,
+    /// Where it comes from. None if it was gone before that was asked.
+    address: Option<SocketAddr>,
     last: Cell<Option<Instant>>,
     /// The connection that it leaves its place to.
     next: Mutex<Option<TcpStream>>,
@@ -42,11 +44,13 @@ impl<'a, R: Wait + Clock, T: Reporter> Client<'a, R, T> {
         port: &'a Port,
         stream: TcpStream,
     ) -> Client<'a, R, T> {
+        let address = stream.peer_addr().ok();
         Client {
             rt,
             with,
             port,
             stream,
+            address,
             last: Cell::new(Instant::now(rt).ok()),
             next: Mutex::new(None),
         }
@@ -55,6 +59,11 @@ impl<'a, R: Wait + Clock, T: Reporter> Client<'a, R, T> {
     /// The connection that it left its place to.
     pub fn take_next(&self) -> Option<TcpStream> {
         self.next.lock(self.rt).take()
+    }
+
+    /// Where it comes from, if that is known.
+    pub fn address(&self) -> Option<SocketAddr> {
+        self.address
     }
 
     /// The connection.
@@ -75,6 +84,11 @@ impl<'a, R: Wait + Clock, T: Reporter> Client<'a, R, T> {
     /// The answer to the line `images`.
     pub fn images_text(&self, alloc: Global) -> Result<String, AllocError> {
         self.with.shared.images_text(self.rt, alloc)
+    }
+
+    /// The answer to the line `replays`.
+    pub fn replays_text(&self, alloc: Global) -> Result<String, AllocError> {
+        self.with.shared.replays.text(self.rt, alloc)
     }
 
     /// It is not idle now.

@@ -190,6 +190,7 @@ fn serve_at<'x, D: Disk + Drop, A: Naming, P: Place, R: Wait + Clock, T: Reporte
         rt,
         archive,
         with,
+        address: None,
         settles: !options.only_reads,
     };
     let controller = Controller::<D, A, P, R, T>::new(

@@ -9,7 +9,7 @@ ghost use Rattle.tool_core.specs.Transcript.{WritesText};
 use crate::client::{Client, ClientReader, ClientWriter, is_timed};
 use crate::consumer_reader::ConsumerReader;
 use crate::first_bytes::FirstBytes;
-use crate::followers::{Claim, Followers};
+use crate::followers::{Asked, Claim, Followers};
 use crate::line_reader::LineReader;
 use crate::listener::{Ending, SharedListener};
 use crate::options::ServeOptions;
@@ -18,10 +18,10 @@ use crate::script_reader::{LONGEST_FOLLOW, OwnLines, ScriptReader};
 use archive_model::Reply;
 use control_lines::{FollowFields, Line, parse_line, print_following, print_refusal};
 use frame_core::Refusal;
-use server_state::{Reporter, Shared};
-use std::alloc::Global;
+use server_state::{ClientPlaces, Reporter, Shared};
+use std::alloc::{AllocError, Global};
 use std::io::{BufWriter, Read, Write};
-use std::net::{TcpStream, UdpSocket};
+use std::net::{SocketAddr, TcpStream, UdpSocket};
 use std::rt::Clock;
 use std::sync::Wait;
 use std::time::Duration;
@@ -32,10 +32,14 @@ const WRITTEN_AT_ONCE: usize = 65_536;
 
 /// Who answers the lines of connections.
 pub(crate) trait Server: Answerer {
-    ghost use Rattle.std.specs.Prelude.{Bool};
+    ghost use Rattle.std.specs.Prelude.{◌≡◌, Bool};
 
     /// What the end of a connection makes of it, if the connection's replays are closed and if they are not.
     ghost ended: { Bool → Self → Self → Type 0 };
+
+    /// A connection from this address begins, if that is known.
+    fn begin_connection(&mut self, address: Option<SocketAddr>)
+        ensures { self.new ≡ self.old };
 
     /// A connection has ended. Its replays are closed if `closes_replays`.
     fn end_connection(&mut self, alloc: Global, closes_replays: bool)
@@ -49,6 +53,8 @@ pub(crate) struct ClientOptions {
     pub idle: Duration,
     /// Whether the line `images` is answered.
     pub lists_images: bool,
+    /// Whether the line `replays` is answered.
+    pub lists_replays: bool,
     /// Whether the line `follow` is answered.
     pub follows: bool,
     /// Whether the replays that a connection leaves open are closed.
@@ -67,6 +73,7 @@ impl ClientOptions {
         ensures closes { IsTrue result.closes_replays ↔ IsSome options.now.clients }
         ensures single { IsTrue result.is_single ↔ (places.now.clients ≡ 1) }
         ensures images { IsTrue result.lists_images ↔ IsSome options.now.window }
+        ensures replays { IsTrue result.lists_replays ↔ (IsTrue result.lists_images ⊎ IsFalse result.is_single) }
         ensures follows { IsTrue result.follows ↔ ((0 < places.now.followers)
             × (IsTrue result.lists_images ⊎ IsFalse result.is_single)) }
         ensures checkpoints { result.offers_checkpoints ≡ options.now.makes_checkpoints }
@@ -77,6 +84,7 @@ impl ClientOptions {
         ClientOptions {
             idle: Duration::from_secs(options.idle_seconds),
             lists_images,
+            lists_replays: lists_images || !is_single,
             follows: places.followers > 0 && (lists_images || !is_single),
             closes_replays: options.clients.is_some(),
             is_single,
@@ -90,6 +98,7 @@ impl ClientOptions {
         ensures closes { result.closes_replays ≡ true }
         ensures single { result.is_single ≡ false }
         ensures images { IsTrue result.lists_images ↔ IsSome options.now.window }
+        ensures replays { result.lists_replays ≡ false }
         ensures follows { IsTrue result.follows ↔ (0 < places.now.followers) }
         ensures checkpoints { result.offers_checkpoints ≡ false }
         ensures reads { result.only_reads ≡ true }
@@ -97,6 +106,7 @@ impl ClientOptions {
         ClientOptions {
             idle: Duration::from_secs(options.idle_seconds),
             lists_images: options.window.is_some(),
+            lists_replays: false,
             follows: places.followers > 0,
             closes_replays: true,
             is_single: false,
@@ -135,6 +145,15 @@ impl<T: Reporter> Connections<T> {
     /// Whether serving has ended.
     pub fn has_ended(&self) -> bool {
         self.ending.has_ended(&self.shared)
+    }
+
+    /// How many clients of a port are served, where that is measured: at the control port.
+    fn served_at(&self, port: &Port) -> Option<&ClientPlaces> {
+        if port.options.only_reads {
+            None
+        } else {
+            Some(&self.shared.meter.clients)
+        }
     }
 
     /// The port whose connections a client's thread of this index serves: those of the first ones serve the control port's.
@@ -197,7 +216,14 @@ pub(crate) fn serve_connections<R: Wait + Clock, T: Reporter, S: Server + Drop>(
         let Some(stream) = taken else {
             return state.into_archive();
         };
+        let served = with.served_at(port);
+        if let Some(clients) = served {
+            clients.begin();
+        }
         let (after, next) = serve_stream(rt, with, port, stream, state);
+        if let Some(clients) = served {
+            clients.end();
+        }
         state = after;
         waiting = next;
         if waiting.is_none() {
@@ -221,6 +247,8 @@ fn serve_stream<'x, R: Wait + Clock, T: Reporter, S: Server + Drop>(
         return (state, None);
     }
     let client = Client::new(rt, with, port, stream);
+    let mut state = state;
+    state.archive.begin_connection(client.address());
     let (mut state, end) = serve_client(rt, with, port, &client, state);
     if matches!(end, ConnectionEnd::Quits) && !port.options.only_reads {
         with.ending.close(rt, Ok(()));
@@ -279,15 +307,15 @@ fn serve_reader<R: Wait + Clock, T: Reporter, I: Read + Drop, W: Write, S: Answe
     writer: &mut W,
     state: ScriptState<S>,
 ) -> (ScriptState<S>, ConnectionEnd) {
-    if options.lists_images || options.follows {
+    if options.lists_images || options.lists_replays || options.follows {
         return serve_scripts(rt, with, options, client, reader, writer, state);
     }
     let (state, _, has_quit) = answer_script(with.alloc, client, options, reader, writer, state);
     (state, ConnectionEnd::of(has_quit))
 }
 
-/// Answers the lines of a client as `serve_reader`, a line `images` between them by the images, and a line `follow` by a
-/// replay whose frames the client is sent.
+/// Answers the lines of a client as `serve_reader`, a line `images` or `replays` between them by the images or the open replays,
+/// and a line `follow` by a replay whose frames the client is sent.
 fn serve_scripts<R: Wait + Clock, T: Reporter, I: Read + Drop, W: Write, S: Answerer>(
     rt: &R,
     with: &Connections<T>,
@@ -300,6 +328,7 @@ fn serve_scripts<R: Wait + Clock, T: Reporter, I: Read + Drop, W: Write, S: Answ
     let alloc = with.alloc;
     let taken = OwnLines {
         images: options.lists_images,
+        replays: options.lists_replays,
         follow: options.follows,
     };
     let Ok(mut reader) = ScriptReader::new(alloc, reader, taken) else {
@@ -326,7 +355,7 @@ fn serve_scripts<R: Wait + Clock, T: Reporter, I: Read + Drop, W: Write, S: Answ
     (state, ConnectionEnd::Ended)
 }
 
-/// Answers the line `images` or `follow`, if one of them comes next. How the lines end, if they do.
+/// Answers the line `images`, `replays` or `follow`, if one of them comes next. How the lines end, if they do.
 fn answer_own<R: Wait + Clock, T: Reporter, I: Read, W: Write>(
     rt: &R,
     with: &Connections<T>,
@@ -335,11 +364,10 @@ fn answer_own<R: Wait + Clock, T: Reporter, I: Read, W: Write>(
     writer: &mut W,
 ) -> Option<ConnectionEnd> {
     if reader.takes_images() {
-        return if put_images(with.alloc, client, writer) {
-            None
-        } else {
-            Some(ConnectionEnd::Ended)
-        };
+        return put_text(client.images_text(with.alloc), writer);
+    }
+    if reader.takes_replays() {
+        return put_text(client.replays_text(with.alloc), writer);
     }
     let mut line = [0; LONGEST_FOLLOW];
     let count = reader.take_follow(&mut line);
@@ -347,7 +375,10 @@ fn answer_own<R: Wait + Clock, T: Reporter, I: Read, W: Write>(
         return Some(ConnectionEnd::Ended);
     }
     match asked_by(with.alloc, &line[..count]) {
-        Ok(fields) => answer_follow(rt, with, &fields, writer),
+        Ok(fields) => {
+            let address = client.address();
+            answer_follow(rt, with, &Asked { fields, address }, writer)
+        }
         Err(refusal) => put_refusal(&refusal, writer),
     }
 }
@@ -366,10 +397,10 @@ fn asked_by(alloc: Global, line: &[u8]) -> Result<FollowFields, Refusal> {
 fn answer_follow<R: Wait + Clock, T: Reporter, W: Write>(
     rt: &R,
     with: &Connections<T>,
-    fields: &FollowFields,
+    asked: &Asked,
     writer: &mut W,
 ) -> Option<ConnectionEnd> {
-    let (claim, position) = match with.followers.ask(rt, fields) {
+    let (claim, position) = match with.followers.ask(rt, asked) {
         Ok(asked) => asked,
         Err(refusal) => return put_refusal(&refusal, writer),
     };
@@ -426,15 +457,16 @@ fn refuse<W: Write>(alloc: Global, writer: &mut W) -> Result<(), EarlyEnd>
     write_outcome(alloc, &Err(Refusal::BadLine), writer)
 }
 
-/// Writes the answer to the line `images`. Whether it went out.
-fn put_images<R: Wait + Clock, T: Reporter, W: Write>(
-    alloc: Global,
-    client: &Client<'_, R, T>,
-    writer: &mut W,
-) -> bool {
-    match client.images_text(alloc) {
+/// Writes an answer that the server gives by itself. How the lines end, if it did not go out.
+fn put_text<W: Write>(text: Result<String, AllocError>, writer: &mut W) -> Option<ConnectionEnd> {
+    let is_out = match text {
         Ok(text) => writer.write_all(text.as_bytes()).is_ok() && writer.flush().is_ok(),
         Err(_) => false,
+    };
+    if is_out {
+        None
+    } else {
+        Some(ConnectionEnd::Ended)
     }
 }
 

@@ -9,6 +9,7 @@ use archive_model::Reply;
 use control_core::{Event, Request};
 use frame_core::{Geometry, Refusal};
 use std::alloc::Global;
+use std::net::SocketAddr;
 use tool_core::{Answerer, CheckpointOutcome};
 
 /// Answers lines by a server, as far as they only ask. Any other is `BadLine`, and changes nothing.
@@ -70,6 +71,10 @@ impl<S: Answerer> Answerer for Consumer<S> {
 
 impl<S: Server> Server for Consumer<S> {
     ghost ended = { λ closes old new. S.ended closes old.server new.server };
+
+    fn begin_connection(&mut self, address: Option<SocketAddr>) {
+        self.server.begin_connection(address);
+    }
 
     fn end_connection(&mut self, alloc: Global, closes_replays: bool) {
         self.server.end_connection(alloc, closes_replays);

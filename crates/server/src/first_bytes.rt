@@ -1,10 +1,26 @@
 //! The first bytes of a connection, which say whether another protocol is spoken there. docs/SERVING.md, "Control lines".
 
-ghost use Rattle.std.specs.Prelude.{◌≡◌, ◌≤◌, length};
+ghost use Rattle.std.specs.Prelude.{◌≡◌, ◌≤◌, nat_eq};
+ghost use Rattle.std.specs.List.{list_any, starts_with};
 ghost use Rattle.server.specs.FirstBytes.{is_foreign, may_be_foreign};
 
 use std::io::{self, Read};
 
+/// What a connection of another protocol begins with: a method of HTTP and a blank, HTTP/2's preface, or the first byte of a TLS
+/// handshake.
+const WORDS: [&[u8]; 11] = [
+    b"GET ",
+    b"POST ",
+    b"HEAD ",
+    b"PUT ",
+    b"DELETE ",
+    b"OPTIONS ",
+    b"CONNECT ",
+    b"PATCH ",
+    b"TRACE ",
+    b"PRI ",
+    b"\x16",
+];
 /// Bytes on which it is decided at most: the longest of the words.
 const LONGEST: usize = 8;
 
@@ -77,37 +93,42 @@ impl<I: Read + Drop> Read for FirstBytes<I> {
     }
 }
 
-/// Whether bytes begin a connection of another protocol: with a method of HTTP and a blank, with HTTP/2's preface, or with the first
-/// byte of a TLS handshake.
+/// Whether bytes begin a connection of another protocol.
 fn is_foreign(bytes: &[u8]) -> bool
     ensures { result ≡ is_foreign bytes.now }
 {
-    bytes.starts_with(b"GET ")
-        || bytes.starts_with(b"POST ")
-        || bytes.starts_with(b"HEAD ")
-        || bytes.starts_with(b"PUT ")
-        || bytes.starts_with(b"DELETE ")
-        || bytes.starts_with(b"OPTIONS ")
-        || bytes.starts_with(b"CONNECT ")
-        || bytes.starts_with(b"PATCH ")
-        || bytes.starts_with(b"TRACE ")
-        || bytes.starts_with(b"PRI ")
-        || bytes.starts_with(b"\x16")
+    let words: [&[u8]; 11] = WORDS;
+    begins_with_one(bytes, words.as_slice())
 }
 
 /// Whether bytes may begin such a connection once more of them come.
 fn may_be_foreign(bytes: &[u8]) -> bool
     ensures { result ≡ may_be_foreign bytes.now }
 {
-    b"GET ".starts_with(bytes)
-        || b"POST ".starts_with(bytes)
-        || b"HEAD ".starts_with(bytes)
-        || b"PUT ".starts_with(bytes)
-        || b"DELETE ".starts_with(bytes)
-        || b"OPTIONS ".starts_with(bytes)
-        || b"CONNECT ".starts_with(bytes)
-        || b"PATCH ".starts_with(bytes)
-        || b"TRACE ".starts_with(bytes)
-        || b"PRI ".starts_with(bytes)
-        || b"\x16".starts_with(bytes)
+    let words: [&[u8]; 11] = WORDS;
+    begins_one(bytes, words.as_slice())
+}
+
+/// Whether bytes begin with one of these words.
+fn begins_with_one(bytes: &[u8], words: &[&[u8]]) -> bool
+    ensures { result ≡ list_any (λ word. starts_with nat_eq bytes.now word.now) words.now }
+{
+    for word in words {
+        if bytes.starts_with(word) {
+            return true;
+        }
+    }
+    false
+}
+
+/// Whether one of these words begins with bytes.
+fn begins_one(bytes: &[u8], words: &[&[u8]]) -> bool
+    ensures { result ≡ list_any (λ word. starts_with nat_eq word.now bytes.now) words.now }
+{
+    for word in words {
+        if word.starts_with(bytes) {
+            return true;
+        }
+    }
+    false
 }

@@ -4,9 +4,16 @@ use control_lines::FollowFields;
 use frame_core::Refusal;
 use std::alloc::{AllocError, Global};
 use std::mem;
-use std::net::TcpStream;
+use std::net::{SocketAddr, TcpStream};
 use std::sync::atomic::{AtomicBool, Ordering};
 use std::sync::{Condvar, Mutex, MutexGuard, Wait};
+
+/// What a client asks for, and where its connection comes from, if that is known.
+#[derive(Clone, Copy)]
+pub(crate) struct Asked {
+    pub fields: FollowFields,
+    pub address: Option<SocketAddr>,
+}
 
 /// How far the place of a follower is.
 #[derive(Drop)]
@@ -16,7 +23,7 @@ enum Stage {
     /// Nobody can, as its thread could not be made.
     Lost,
     /// A client has asked for frames.
-    Asked(FollowFields),
+    Asked(Asked),
     /// The place's thread opens a replay.
     Opening,
     /// It has answered where the frames begin, in bytes of the stream, or why there are none.
@@ -90,10 +97,10 @@ impl FollowerPlaces {
     }
 
     /// Takes a place that is free for a client who asks.
-    fn take(&mut self, fields: &FollowFields) -> Option<Claim> {
+    fn take(&mut self, asked: &Asked) -> Option<Claim> {
         for (index, place) in self.places.iter_mut().enumerate() {
             if matches!(place.stage, Stage::Free) {
-                place.stage = Stage::Asked(*fields);
+                place.stage = Stage::Asked(*asked);
                 place.asked = place.asked.wrapping_add(1);
                 return Some(Claim {
                     place: index,
@@ -113,13 +120,13 @@ impl FollowerPlaces {
     }
 
     /// What a client asked for at a place.
-    fn take_asked(&mut self, place: usize) -> Option<FollowFields> {
+    fn take_asked(&mut self, place: usize) -> Option<Asked> {
         let place = self.places.get_mut(place)?;
         match &place.stage {
-            Stage::Asked(fields) => {
-                let fields = *fields;
+            Stage::Asked(asked) => {
+                let asked = *asked;
                 place.stage = Stage::Opening;
-                Some(fields)
+                Some(asked)
             }
             _ => None,
         }
@@ -258,7 +265,7 @@ impl Followers {
 
     /// Asks for frames, and waits until a thread has answered: a claim to its place, and where the frames begin. `MaxReplays`
     /// if no place is free, `BadLine` if there are none, `Broken` if no archive is open.
-    pub fn ask<R: Wait>(&self, rt: &R, fields: &FollowFields) -> Result<(Claim, i64), Refusal> {
+    pub fn ask<R: Wait>(&self, rt: &R, asked: &Asked) -> Result<(Claim, i64), Refusal> {
         if !self.are_served() {
             return Err(Refusal::BadLine);
         }
@@ -266,7 +273,7 @@ impl Followers {
         if table.is_over {
             return Err(Refusal::Broken);
         }
-        let Some(claim) = table.take(fields) else {
+        let Some(claim) = table.take(asked) else {
             return Err(Refusal::MaxReplays);
         };
         self.changed.notify_all();
@@ -306,7 +313,7 @@ impl Followers {
     }
 
     /// What a client asks for at a place, once one does. None if the server ends.
-    pub fn next<R: Wait>(&self, rt: &R, place: usize) -> Option<FollowFields> {
+    pub fn next<R: Wait>(&self, rt: &R, place: usize) -> Option<Asked> {
         let table = self.table.lock(rt);
         let mut table = self
             .changed

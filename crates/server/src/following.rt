@@ -6,6 +6,7 @@ ghost use Rattle.server.specs.Clients.{IsBack};
 use crate::connections::Connections;
 use crate::followed_stream::FollowedStream;
 use crate::follower_connection::{FollowerConnection, FollowerWriter};
+use crate::followers::Asked;
 use crate::openings::Openings;
 use crate::pushing::{FollowEnd, send_all};
 use archive_lock::{Made, Naming, SharedArchive};
@@ -14,7 +15,7 @@ use call_history::Pass;
 use control_lines::FollowFields;
 use disk_core::Disk;
 use frame_core::Refusal;
-use server_state::{ClientNews, Happening, Reporter};
+use server_state::{ClientNews, Happening, KnownReplay, ReplayReader, Reporter};
 use settled_replays::{
     HeldReplay, SentFrames, SettledReplayer, Unbegun, Unopened, described, open_in_term,
 };
@@ -95,10 +96,10 @@ fn follow_by<D: Disk, A: Naming, R: Wait + Clock, T: Reporter, E: Disk + Drop, O
     let mut pass = pass;
     for _ in following.rt.forever() {
         let next = following.with.followers.next(following.rt, following.place);
-        let Some(fields) = next else {
+        let Some(asked) = next else {
             return pass;
         };
-        pass = follow::<D, A, R, T, E, O>(following, openings, pass, &fields);
+        pass = follow::<D, A, R, T, E, O>(following, openings, pass, &asked);
     }
     unreachable!()
 }
@@ -108,7 +109,7 @@ fn follow<D: Disk, A: Naming, R: Wait + Clock, T: Reporter, E: Disk + Drop, O: O
     following: &Following<'_, D, A, R, T>,
     openings: &O,
     pass: Pass<Made>,
-    fields: &FollowFields,
+    asked: &Asked,
 ) -> Pass<Made>
     requires { pass.table ≡ A.table }
     ensures { IsBack pass result }
@@ -119,8 +120,9 @@ fn follow<D: Disk, A: Naming, R: Wait + Clock, T: Reporter, E: Disk + Drop, O: O
         place,
         ..
     } = following;
-    match begun::<D, A, R, T, E, O>(following, openings, pass, fields) {
+    match begun::<D, A, R, T, E, O>(following, openings, pass, &asked.fields) {
         Ok(followed) => {
+            note_begun(following, &followed.replayer, asked);
             let position = followed.replayer.next_position();
             with.followers.answer(*rt, *place, Ok(position));
             match with.followers.stream(*rt, *place) {
@@ -133,6 +135,25 @@ fn follow<D: Disk, A: Naming, R: Wait + Clock, T: Reporter, E: Disk + Drop, O: O
             pass
         }
     }
+}
+
+/// Notes a follower's replay among those that are open.
+fn note_begun<D: Disk, A: Naming, E: Disk + Drop, R: Wait, T: Reporter>(
+    following: &Following<'_, D, A, R, T>,
+    replayer: &SettledReplayer<E>,
+    asked: &Asked,
+) {
+    let position = Some(replayer.next_position());
+    let replay = KnownReplay {
+        number: replayer.number(),
+        recording: replayer.recording(),
+        first: position,
+        next: position,
+        length: asked.fields.length,
+        reader: ReplayReader::Follow,
+        address: asked.address,
+    };
+    following.with.shared.replays.follow(following.rt, replay);
 }
 
 /// Sends a connection the frames of a replay, and then ends it: the pass.
@@ -189,7 +210,9 @@ fn finish<D: Disk, A: Naming, E: Disk + Drop, R: Wait, T: Reporter>(
     requires { replayer.held.pass.table ≡ A.table }
     ensures { IsBack replayer.held.pass result }
 {
+    let number = replayer.number();
     let pass = freed(following, replayer);
+    following.with.shared.replays.close(following.rt, number);
     following
         .with
         .followers

@@ -28,9 +28,10 @@ pub use ends::Ends;
 pub use openings::Openings;
 pub use options::{IDLE_SECONDS, SEGMENT_LENGTH, SETTLE_EVERY, ServeOptions};
 pub use served::{Served, Stuck};
+pub use server_receiver::{MAX_NETWORKS, Network, Networks};
 pub use server_recorder::{Flusher, Unflushed};
 pub use server_state::{
     ArchiveNews, ClientNews, Counted, GapNews, Happening, HoleCause, ImageCounted, ImageNews,
-    LineReporter, Reporter, ResumeNews, SessionNews, Unreported,
+    LineReporter, PlaceNews, Reporter, ResumeNews, SessionNews, Unreported,
 };
 pub use serving::{serve_flushing, serve_on, serve_with};

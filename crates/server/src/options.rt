@@ -1,6 +1,8 @@
 //! What a server can be asked for: docs/SERVING.md, "How to run it".
 
-ghost use Rattle.std.specs.Prelude.{◌≡◌, [], None, false, pos};
+ghost use Rattle.std.specs.Prelude.{◌≡◌, [], None, false, pos, replicate};
+
+use server_receiver::Networks;
 
 /// Seconds for which a client may be idle while another waits, unless an option says otherwise.
 pub const IDLE_SECONDS: u64 = 60;
@@ -27,6 +29,8 @@ pub struct ServeOptions<'a> {
     pub clients: Option<u32>,
     /// The streams whose publications are recorded without being asked; with a receiver window alone.
     pub streams: &'a [i32],
+    /// The networks that datagrams are taken from.
+    pub networks: Networks,
     /// Bytes of a segment of such a recording: a power of two from 65,536 to 1,073,741,824. It is a term if that is longer.
     pub segment_length: i32,
     /// Whether the server ends by itself once it can record nothing: its archive can't be opened, a write has failed, or its
@@ -42,13 +46,15 @@ pub struct ServeOptions<'a> {
 
 impl<'a> ServeOptions<'a> {
     /// A client may be idle for 60 seconds while another waits, a block waits for 5 milliseconds at most, no status message is
-    /// sent, one client is served at a time, nothing is recorded without being asked, the server is not strict, nothing is
+    /// sent, one client is served at a time, nothing is recorded without being asked, datagrams of all networks are taken, the server
+    /// is not strict, nothing is
     /// measured, and no checkpoint is made.
     pub fn new() -> ServeOptions<'a>
         ensures times { (result.idle_seconds ≡ 60) × (result.settle_every ≡ 5) }
         ensures receiver { (result.window ≡ None) × (result.receiver_id ≡ pos 0) }
         ensures clients { result.clients ≡ None }
         ensures streams { (result.streams.now ≡ []) × (result.segment_length ≡ pos 134217728) }
+        ensures networks { result.networks ≡ record { networks = replicate 16 None } }
         ensures strict { result.is_strict ≡ false }
         ensures measured { result.is_measured ≡ false }
         ensures checkpoints { (result.makes_checkpoints ≡ false) × (result.begins_short ≡ false) }
@@ -60,6 +66,7 @@ impl<'a> ServeOptions<'a> {
             receiver_id: 0,
             clients: None,
             streams: &[],
+            networks: Networks::new(),
             segment_length: SEGMENT_LENGTH,
             is_strict: false,
             is_measured: false,

@@ -137,9 +137,29 @@ fn send_next<D: Disk, A: Naming, E: Disk + Drop, R: Wait, T: Reporter, W: Write>
     None
 }
 
+/// Moves the archive's replay on as `move_on`, and notes where the next frame begins.
+fn keep_up<D: Disk, A: Naming, E: Disk + Drop, R: Wait, T: Reporter>(
+    following: &Following<'_, D, A, R, T>,
+    replayer: &mut SettledReplayer<E>,
+)
+    requires { replayer.old.held.pass.table ≡ A.table }
+    ensures reader { replayer.new.reader ≡ replayer.old.reader }
+    ensures pass { (replayer.new.held.pass.table ≡ replayer.old.held.pass.table)
+        × (replayer.new.held.pass.number ≡ replayer.old.held.pass.number) }
+{
+    let before = replayer.number();
+    move_on(following, replayer);
+    following.with.shared.replays.move_on(
+        following.rt,
+        before,
+        replayer.number(),
+        replayer.next_position(),
+    );
+}
+
 /// Moves the archive's replay on, if the next frame is in a later segment, and keeps its new number from all clients; but not if
 /// a client has asked to close it.
-fn keep_up<D: Disk, A: Naming, E: Disk + Drop, R: Wait, T: Reporter>(
+fn move_on<D: Disk, A: Naming, E: Disk + Drop, R: Wait, T: Reporter>(
     following: &Following<'_, D, A, R, T>,
     replayer: &mut SettledReplayer<E>,
 )

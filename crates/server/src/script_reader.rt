@@ -1,9 +1,9 @@
-//! What a client sends up to a line `images` or `follow`, which the server answers by itself. docs/SERVING.md, "Which images there
-//! are" and "Consumers".
+//! What a client sends up to a line `images`, `replays` or `follow`, which the server answers by itself. docs/SERVING.md, "Which
+//! images there are", "Which replays are open" and "Consumers".
 
-ghost use Rattle.std.specs.Prelude.{◌≡◌, ◌≤◌, ◌==◌, bytes_eq, codes, length, take, vec_len};
+ghost use Rattle.std.specs.Prelude.{◌≡◌, ◌≤◌, ◌==◌, length, take, vec_len};
 ghost use Rattle.std.specs.List.{list_any};
-ghost use Rattle.server.specs.OwnLines.{ends_soon, is_follow, is_images, may_be_follow, may_be_images, may_be_own, may_grow, script_length};
+ghost use Rattle.server.specs.OwnLines.{ends_soon, is_follow, is_images, is_line, is_replays, may_be_follow, may_be_images, may_be_own, may_be_replays, may_grow, script_length};
 
 use memchr::memchr;
 use std::alloc::{AllocError, Global};
@@ -11,6 +11,8 @@ use std::io::{self, Read};
 
 /// The line that asks for the images.
 const IMAGES: &[u8; 7] = b"images\n";
+/// The line that asks for the open replays.
+const REPLAYS: &[u8; 8] = b"replays\n";
 /// How a line begins that asks for frames.
 const FOLLOW: &[u8; 7] = b"follow ";
 /// Bytes of the longest such line, its end among them: a longer one is no control line.
@@ -23,6 +25,8 @@ const READ_AHEAD: usize = 65_536;
 pub(crate) struct OwnLines {
     /// The line `images`.
     pub images: bool,
+    /// The line `replays`.
+    pub replays: bool,
     /// Lines that begin with `follow`.
     pub follow: bool,
 }
@@ -72,17 +76,40 @@ impl<R: Read> ScriptReader<R> {
     pub fn takes_images(&mut self) -> bool {
         let is_next = self.is_at_images();
         if is_next {
-            self.from = self.from.saturating_add(IMAGES.len()).min(self.to);
+            self.pass_over(IMAGES.len());
         }
         is_next
+    }
+
+    /// Whether the line `replays` comes next. It is passed over then.
+    pub fn takes_replays(&mut self) -> bool {
+        let is_next = self.is_at_replays();
+        if is_next {
+            self.pass_over(REPLAYS.len());
+        }
+        is_next
+    }
+
+    /// Passes over so many of the bytes that wait, or over all if there are fewer.
+    fn pass_over(&mut self, count: usize) {
+        self.from = self.from.saturating_add(count).min(self.to);
     }
 
     fn is_at_images(&self) -> bool {
         self.own.images && self.begins_line && is_images(self.waiting(), self.has_ended)
     }
 
+    fn is_at_replays(&self) -> bool {
+        self.own.replays && self.begins_line && is_replays(self.waiting(), self.has_ended)
+    }
+
     fn is_at_follow(&self) -> bool {
         self.own.follow && self.begins_line && is_follow(self.waiting(), self.has_ended)
+    }
+
+    /// Whether a line comes next that the server answers by itself.
+    fn is_at_own(&self) -> bool {
+        self.is_at_images() || self.is_at_replays() || self.is_at_follow()
     }
 
     /// Takes the line that comes next, if it begins with `follow`: how many bytes it has, its end among them, unless that is
@@ -137,7 +164,7 @@ impl<R: Read> Read for ScriptReader<R> {
             if count > 0 {
                 return Ok(self.give(count, buf));
             }
-            if self.has_ended || self.is_at_images() || self.is_at_follow() {
+            if self.has_ended || self.is_at_own() {
                 return Ok(0);
             }
             self.fill()?;
@@ -150,14 +177,21 @@ impl<R: Read> Read for ScriptReader<R> {
 fn is_images(bytes: &[u8], has_ended: bool) -> bool
     ensures { result ≡ is_images has_ended bytes.now }
 {
-    bytes.starts_with(IMAGES) || (has_ended && is_word(bytes))
+    is_line(bytes, IMAGES, b"images", has_ended)
 }
 
-/// Whether bytes are the word of the line, without its end.
-fn is_word(bytes: &[u8]) -> bool
-    ensures { result ≡ bytes_eq bytes.now (codes "images") }
+/// Whether bytes begin with the line `replays`; if no more bytes come, its end may be missing.
+fn is_replays(bytes: &[u8], has_ended: bool) -> bool
+    ensures { result ≡ is_replays has_ended bytes.now }
 {
-    bytes == b"images".as_slice()
+    is_line(bytes, REPLAYS, b"replays", has_ended)
+}
+
+/// Whether bytes begin with a line; if no more bytes come, they may be its word without its end.
+fn is_line(bytes: &[u8], line: &[u8], word: &[u8], has_ended: bool) -> bool
+    ensures { result ≡ is_line line.now word.now has_ended bytes.now }
+{
+    bytes.starts_with(line) || (has_ended && bytes == word)
 }
 
 /// Whether bytes begin with the line `images`, or may once more of them come.
@@ -165,6 +199,13 @@ fn may_be_images(bytes: &[u8], has_ended: bool) -> bool
     ensures { result ≡ may_be_images has_ended bytes.now }
 {
     is_images(bytes, has_ended) || (!has_ended && IMAGES.starts_with(bytes))
+}
+
+/// Whether bytes begin with the line `replays`, or may once more of them come.
+fn may_be_replays(bytes: &[u8], has_ended: bool) -> bool
+    ensures { result ≡ may_be_replays has_ended bytes.now }
+{
+    is_replays(bytes, has_ended) || (!has_ended && REPLAYS.starts_with(bytes))
 }
 
 /// Whether bytes begin with a line that begins with `follow`, and is short enough.
@@ -224,6 +265,7 @@ fn may_be_own(own: &OwnLines, bytes: &[u8], has_ended: bool) -> bool
     ensures { result ≡ may_be_own own.now has_ended bytes.now }
 {
     (own.images && may_be_images(bytes, has_ended))
+        || (own.replays && may_be_replays(bytes, has_ended))
         || (own.follow && may_be_follow(bytes, has_ended))
 }
 

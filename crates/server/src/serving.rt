@@ -23,12 +23,14 @@ use archive_lock::{Closed, Made, Naming, SharedArchive};
 use call_history::{Opened, Pass};
 use disk_core::{Disk, MemoryDisk};
 use engine_core::Engine;
-use frame_core::limits::{LONGEST_DATAGRAM, MAX_WAITING_BLOCKS};
-use server_receiver::{Images, Receiver, Reception, Senders, TENDING};
+use frame_core::limits::LONGEST_DATAGRAM;
+use server_receiver::{Images, Networks, Receiver, Reception, Senders, TENDING};
 use server_recorder::{
     Flusher, OwnRecordings, Recording, SeatRoom, Seats, Unflushed, begin_short, parted, record_all,
 };
-use server_state::{ArchiveNews, FedBlock, Happening, Reporter, Shared, SharedOptions, Unreported};
+use server_state::{
+    ArchiveNews, FedBlock, Happening, MAX_QUEUED, Reporter, Shared, SharedOptions, Unreported,
+};
 use std::alloc::{AllocError, Global};
 use std::collections::VecDeque;
 use std::marker::Brand;
@@ -55,6 +57,8 @@ struct Serving<'a, R, T, F> {
     /// Streams whose publications are recorded without being asked, and how.
     streams: &'a [i32],
     segment_length: i32,
+    /// The networks that datagrams are taken from.
+    networks: Networks,
     /// Whether the server ends once it can record nothing.
     is_strict: bool,
     /// Whether a checkpoint is made before the first line.
@@ -81,7 +85,7 @@ impl Tools {
             images: Images::new(alloc),
             senders: senders_for(alloc, options)?,
             buffer: vec![in alloc; 0; LONGEST_DATAGRAM]?,
-            batch: VecDeque::with_capacity(alloc, MAX_WAITING_BLOCKS)?,
+            batch: VecDeque::with_capacity(alloc, MAX_QUEUED)?,
         })
     }
 }
@@ -140,7 +144,7 @@ pub fn serve_on<R: Threads + Wait + Clock + Sync, D: Disk + Drop + Send>(
 ///
 /// `Memory` if the opening finds none, or a thread can't be made; `Read` if the listener or the socket fails. A reply that
 /// finds no memory ends its connection. Costs memory for 64 images, each of which holds 1,048,576 bytes of its stream at
-/// most, for 32 blocks, and for 131,072 bytes of each client's lines and replies.
+/// most, for 128 blocks, and for 131,072 bytes of each client's lines and replies.
 pub fn serve_with<
     R: Threads + Wait + Clock + Sync,
     D: Disk + Drop + Send,
@@ -217,6 +221,7 @@ pub fn serve_flushing<
         settle_every: options.settle_every,
         streams: options.streams,
         segment_length: options.segment_length,
+        networks: options.networks,
         is_strict: options.is_strict,
         begins_short: options.begins_short,
         shared: &lines.shared,
@@ -253,6 +258,7 @@ fn connections_of<R: Wait, T: Reporter>(
 ) -> Connections<T>
     ensures { result.places ≡ places }
 {
+    shared.meter.clients.set(places.clients);
     let ending = Ending::new();
     let control = Port {
         listener: SharedListener::new(rt, ends.control, places.clients, &ending),
@@ -594,6 +600,7 @@ fn receive<R: Wait + Clock, T: Reporter, F>(
         images,
         senders,
         with.streams,
+        with.networks,
     );
     let is_whole = is_timed && reception.receive_all(buffer.as_mut_slice());
     if !is_whole {

@@ -7,6 +7,7 @@ use archive_model::Reply;
 use control_core::Event;
 use frame_core::{Geometry, Refusal};
 use std::alloc::Global;
+use std::net::SocketAddr;
 use tool_core::{Answerer, CheckpointOutcome};
 
 /// No archive is open: calls are `Broken`, and `reopen` and `compact` are `BadLine`.
@@ -52,6 +53,10 @@ impl Server for Unopened {
     ghost use Rattle.std.specs.Prelude.{◌≡◌};
 
     ghost ended = { λ closes old new. new ≡ old };
+
+    fn begin_connection(&mut self, address: Option<SocketAddr>) {
+        let _ = address;
+    }
 
     fn end_connection(&mut self, _alloc: Global, closes_replays: bool) {
         let _ = closes_replays;

@@ -20,7 +20,7 @@ use Rattle.image_core.specs.Stock.{Asks, AsksNothing, Offers}
 use Rattle.stream_pairs.specs.declared.points.StreamPoint.{StreamPoint}
 use Rattle.stream_pairs.specs.Pairs.{vacant_or_next}
 use Rattle.server_receiver.specs.declared.images.DatagramOutcome.{DatagramOutcome}
-use Rattle.server_receiver.specs.declared.images.DatagramOutcome.TheVariants.{Frames, Joined, Nothing, Refused, SetUp, Unknown}
+use Rattle.server_receiver.specs.declared.images.DatagramOutcome.TheVariants.{Frames, Joined, NoPlace, Nothing, Refused, SetUp, Unknown}
 
 -- ---- images by their places, of which some have none
 
@@ -107,7 +107,7 @@ BeginsImage setup olds point news =
 -- A setup frame of a publication without an image makes one image more exactly if there is a place; for want of memory there is
 -- none.
 abbrev pub BegunBy : Setup → List (Option Received) → List (Option Received) → DatagramOutcome → Type 0
-BegunBy setup olds news Nothing = (place_for_next olds ≡ None) × (news ≡ olds)
+BegunBy setup olds news (NoPlace publication) = (place_for_next olds ≡ None) × (publication ≡ publication_of_setup setup) × (news ≡ olds)
 BegunBy setup olds news (Joined i point) = (place_for_next olds ≡ Some i) × BeginsImage setup olds point news
 BegunBy setup olds news (Refused refusal) = (is_some (place_for_next olds) ≡ true) × (refusal ≡ NoMemory) × (news ≡ olds)
 BegunBy setup olds news came = ⊥
@@ -163,15 +163,15 @@ abbrev pub IsPlaced : Option (Option Received) → Type 0
 IsPlaced None = ⊥
 IsPlaced (Some image) = is_some image ≡ true
 
--- frames whose publication has no image: it may get one while there is a place
-abbrev pub unknown_of : List Frame → List (Option Received) → DatagramOutcome
-unknown_of [] images = Nothing
-unknown_of (f ∷ fs) images = if is_some (place_for_next images) then Unknown (publication_of f) else Nothing
+-- frames whose publication has no image
+abbrev pub unknown_of : List Frame → DatagramOutcome
+unknown_of [] = Nothing
+unknown_of (f ∷ fs) = Unknown (publication_of f)
 
 -- frames of a publication are its image's
 abbrev pub TakesFrames : Option ℕ → List (Option Received) → List Frame → List (Option Received) → DatagramOutcome → Type 0
 TakesFrames (Some i) olds fs news came = HandledAt i olds fs news came
-TakesFrames None olds fs news came = (came ≡ unknown_of fs olds) × (news ≡ olds)
+TakesFrames None olds fs news came = (came ≡ unknown_of fs) × (news ≡ olds)
 
 -- What happens to a datagram: frames are for the image of the publication of the first one; bytes without a frame in front may
 -- be a setup frame, which makes an image; and of what else is no datagram nothing comes.

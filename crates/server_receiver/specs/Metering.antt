@@ -1,9 +1,11 @@
 -- What is measured of images, and which datagrams came late or again: docs/SERVING.md, "Metrics".
-use Rattle.std.specs.Prelude.{◌-◌, ◌*◌, ℕ, ℤ, pos, Bool, false, Option, None, Some, int_le, if◌then◌else◌}
+use Rattle.std.specs.Prelude.{◌-◌, ◌*◌, ℕ, ℤ, pos, Bool, false, Option, None, Some, int_le, unsigned_abs, if◌then◌else◌}
 use Rattle.std.specs.Ordering.{int_eq}
+use Rattle.frame_core.specs.declared.nak.Nak.{Nak}
 use Rattle.image_core.specs.Received.{Received, rebuilt}
 use Rattle.metrics_text.specs.declared.measures.ImageMeasures.{ImageMeasures}
 use Rattle.server_receiver.specs.declared.gaps.SeenGap.{SeenGap}
+use Rattle.server_receiver.specs.declared.metering.ImageTraffic.{ImageTraffic}
 
 -- ---- datagrams that came late or again
 
@@ -39,15 +41,26 @@ abbrev pub stood : ℕ → Option SeenGap → ℕ
 stood now None = 0
 stood now (Some gap) = now - gap.since
 
+-- how many bytes of it are asked for; 0 if nothing is
+abbrev pub asked_bytes : Option Nak → ℕ
+asked_bytes None = 0
+asked_bytes (Some n) = unsigned_abs n.length
+
 -- ---- images
 
--- what is measured of an image with this number, whose first gap has stood for so many milliseconds
-abbrev pub image_measured : ℕ → Received → ℕ → ImageMeasures
-image_measured number image millis = record {
+-- what is measured of an image with this number, of which so much was counted
+abbrev pub image_measured : ℕ → Received → ImageTraffic → ImageMeasures
+image_measured number image traffic = record {
   image = number;
   stream_id = image.publication.stream_id;
   session_id = image.publication.session_id;
   rebuilt = pos (rebuilt image);
   consumed = pos image.from;
-  gap_micros = millis * 1000;
+  gap_micros = traffic.gap_millis * 1000;
+  gap_bytes = traffic.gap_bytes;
+  hole_bytes = traffic.hole_bytes;
+  datagrams = traffic.datagrams;
+  naks = traffic.naks;
+  lost = traffic.lost;
+  silent_micros = traffic.silent_millis * 1000;
 }

@@ -1,10 +1,8 @@
 -- What the senders of images are sent by a receiver of the public standard: docs/PROTOCOL.md, "Status messages and NAKs of a
 -- receiver".
-use Rattle.std.specs.Prelude.{◌≡◌, ℕ, ℤ, pos, Bool, false, if◌then◌else◌, MatchBool, List, [], ◌∷◌, ◌++◌, length, nat_lt, not, slice_get, slice_set, Option, None, Some, is_some}
-use Rattle.std.specs.Int.{int_min}
+use Rattle.std.specs.Prelude.{◌≡◌, ℕ, Bool, false, if◌then◌else◌, MatchBool, List, [], ◌∷◌, ◌++◌, length, nat_lt, not, slice_get, slice_set, Option, None, Some, is_some}
 use Rattle.std.specs.declared.net.socket_addr.SocketAddr.{SocketAddr}
 use Rattle.frame_core.specs.declared.block.Publication.{Publication}
-use Rattle.frame_core.specs.declared.geometry.Geometry.{Geometry}
 use Rattle.frame_core.specs.declared.nak.Nak.{Nak}
 use Rattle.frame_core.specs.declared.status.StatusMessage.{StatusMessage}
 use Rattle.frame_core.specs.Nak.{encoded_nak}
@@ -13,8 +11,8 @@ use Rattle.image_core.specs.Received.{Received}
 use Rattle.flow_control.specs.declared.feedback.Feedback.{Feedback}
 use Rattle.flow_control.specs.declared.setups.SetupRequest.{SetupRequest}
 use Rattle.flow_control.specs.Feedback.{GivesRequest, GivesStatus, has_passed, is_live, is_status_due}
-use Rattle.flow_control.specs.Windows.{five_sixteenths}
 use Rattle.flow_control.specs.Setups.{after_asking, may_ask, setup_request_of}
+use Rattle.server_receiver.specs.declared.admission.Admission.{Admission}
 use Rattle.server_receiver.specs.declared.senders.Receiver.{Receiver}
 use Rattle.server_receiver.specs.declared.senders.ImageSender.{ImageSender}
 use Rattle.server_receiver.specs.declared.images.DatagramOutcome.{DatagramOutcome}
@@ -26,9 +24,9 @@ pub record SendersState : Type 0 where
   pub senders : List ImageSender
   pub setups : List SetupRequest
 
--- The greatest window of a publication, in bytes: the receiver's, but at most five sixteenths of a term.
-abbrev pub most_for : Receiver → Geometry → ℤ
-most_for receiver g = int_min receiver.window (pos (five_sixteenths g))
+-- the last status message is forgotten, so that another one is due at once
+abbrev pub StatusForgotten : ImageSender → ImageSender → Type 0
+StatusForgotten old new = new ≡ record old { feedback = record old.feedback { status = None } }
 
 -- ---- where an image's datagrams come from
 
@@ -49,9 +47,9 @@ pub record Hears (from : Option SocketAddr) (now : ℕ) (old new : ImageSender) 
   pub elsewhere : (old.address ≡ from → ⊥) → new.seen ≡ old.seen
   pub feedback : new.feedback ≡ record old.feedback { heard = now }
 
--- nothing came from the sender's address for 10,000 milliseconds
+-- nothing came from the sender's address for 2,000 milliseconds
 abbrev pub is_silent : ℕ → ImageSender → Bool
-is_silent now sender = has_passed 10000 sender.seen now
+is_silent now sender = has_passed 2000 sender.seen now
 
 -- A setup frame did. It is the sender's from now on if the old address is silent.
 abbrev pub SetsUp : Option SocketAddr → ℕ → ImageSender → ImageSender → Type 0
@@ -82,12 +80,11 @@ module _ {E : Type 0} (puts : E → SocketAddr → List ℕ → E → Type 0) wh
   PutsNak to None old new = new ≡ old
   PutsNak to (Some nak) old new = puts old to (encoded_nak nak) new
 
-  -- the status message that is due was sent, if the image is recorded; it is not due to an image that is not
-  abbrev pub SendsStatusDue : Bool → ℕ → Receiver → Received → SocketAddr → Feedback → E → Feedback → E → Type 0
-  SendsStatusDue is_recorded now receiver image to old end new later =
-      MatchBool is_recorded
-      ((status : Option StatusMessage) × GivesStatus now (most_for receiver image.geometry) None receiver.id image old status new × PutsStatus to status end later)
-      ((new ≡ old) × (later ≡ end))
+  -- the status message that is due was sent, if the sender is admitted anything; else none is due
+  abbrev pub SendsStatusDue : Option Admission → ℕ → Receiver → Received → SocketAddr → Feedback → E → Feedback → E → Type 0
+  SendsStatusDue None now receiver image to old end new later = (new ≡ old) × (later ≡ end)
+  SendsStatusDue (Some a) now receiver image to old end new later =
+      (status : Option StatusMessage) × GivesStatus now a.most a.bound receiver.id image old status new × PutsStatus to status end later
 
   -- then the NAK that is due
   abbrev pub SendsRequestDue : ℕ → Received → SocketAddr → Feedback → E → Feedback → E → Bool → Type 0
@@ -95,27 +92,27 @@ module _ {E : Type 0} (puts : E → SocketAddr → List ℕ → E → Type 0) wh
       (nak : Option Nak) × GivesRequest now image old nak new × PutsNak to nak end later × (asked ≡ is_some nak)
 
   -- what is due to the sender of an image was sent to where its setup frame came from
-  pub record TendsTo (is_recorded : Bool) (now : ℕ) (receiver : Receiver) (image : Received) (to : SocketAddr) (old : ImageSender) (end : E) (new : ImageSender) (later : E) (asked : Bool) : Type 0 where
+  pub record TendsTo (admission : Option Admission) (now : ℕ) (receiver : Receiver) (image : Received) (to : SocketAddr) (old : ImageSender) (end : E) (new : ImageSender) (later : E) (asked : Bool) : Type 0 where
     pub between : Feedback
     pub meanwhile : E
-    pub status : SendsStatusDue is_recorded now receiver image to old.feedback end between meanwhile
+    pub status : SendsStatusDue admission now receiver image to old.feedback end between meanwhile
     pub request : SendsRequestDue now image to between meanwhile new.feedback later asked
     pub same : new ≡ record old { feedback = new.feedback }
 
-  abbrev pub TendsIf : Bool → ℕ → Receiver → Received → Option SocketAddr → ImageSender → E → ImageSender → E → Bool → Type 0
-  TendsIf is_recorded now receiver image None old end new later asked = (new ≡ old) × (later ≡ end) × (asked ≡ false)
-  TendsIf is_recorded now receiver image (Some to) old end new later asked = TendsTo is_recorded now receiver image to old end new later asked
+  abbrev pub TendsIf : Option Admission → ℕ → Receiver → Received → Option SocketAddr → ImageSender → E → ImageSender → E → Bool → Type 0
+  TendsIf admission now receiver image None old end new later asked = (new ≡ old) × (later ≡ end) × (asked ≡ false)
+  TendsIf admission now receiver image (Some to) old end new later asked = TendsTo admission now receiver image to old end new later asked
 
   -- to the sender of the image at a place; all others stay
-  abbrev pub TendsAt : Option ImageSender → ℕ → Bool → ℕ → Received → SendersState → E → SendersState → E → Bool → Type 0
-  TendsAt None i is_recorded now image old end new later asked = (new ≡ old) × (later ≡ end) × (asked ≡ false)
-  TendsAt (Some sender) i is_recorded now image old end new later asked =
-      (after : ImageSender) × TendsIf is_recorded now old.receiver image sender.address sender end after later asked
+  abbrev pub TendsAt : Option ImageSender → ℕ → Option Admission → ℕ → Received → SendersState → E → SendersState → E → Bool → Type 0
+  TendsAt None i admission now image old end new later asked = (new ≡ old) × (later ≡ end) × (asked ≡ false)
+  TendsAt (Some sender) i admission now image old end new later asked =
+      (after : ImageSender) × TendsIf admission now old.receiver image sender.address sender end after later asked
       × (new ≡ record old { senders = slice_set old.senders i after })
 
-  abbrev pub Tends : ℕ → Bool → ℕ → Received → SendersState → E → SendersState → E → Bool → Type 0
-  Tends i is_recorded now image old end new later asked =
-      TendsAt (slice_get old.senders i) i is_recorded now image old end new later asked
+  abbrev pub Tends : ℕ → Option Admission → ℕ → Received → SendersState → E → SendersState → E → Bool → Type 0
+  Tends i admission now image old end new later asked =
+      TendsAt (slice_get old.senders i) i admission now image old end new later asked
 
   -- a publication without an image is asked for its setup frame, where its frames came from, if it is time for it
   abbrev pub AsksPublication : Publication → SocketAddr → ℕ → SendersState → E → SendersState → E → Type 0
@@ -130,12 +127,21 @@ module _ {E : Type 0} (puts : E → SocketAddr → List ℕ → E → Type 0) wh
   AsksForSetup (Unknown publication) (Some to) now old end new later = AsksPublication publication to now old end new later
   AsksForSetup came from now old end new later = (new ≡ old) × (later ≡ end)
 
--- a status message is due to the sender of an image, if it is recorded
-abbrev pub is_status_due_to : Option ImageSender → ℕ → Receiver → Received → Bool
-is_status_due_to None now receiver image = false
-is_status_due_to (Some sender) now receiver image = is_status_due now (most_for receiver image.geometry) None image sender.feedback
+-- a status message is due to the sender of an image that is admitted so much
+abbrev pub is_due_by : Option Admission → ℕ → Received → Feedback → Bool
+is_due_by None now image feedback = false
+is_due_by (Some a) now image feedback = is_status_due now a.most a.bound image feedback
 
--- ---- when a publication was heard, and what is given back
+abbrev pub is_status_due_to : Option ImageSender → Option Admission → ℕ → Received → Bool
+is_status_due_to None admission now image = false
+is_status_due_to (Some sender) admission now image = is_due_by admission now image sender.feedback
+
+-- ---- when a publication was heard, where its image's sender is, and what is given back
+
+-- where the sender of an image is
+abbrev pub address_of : Option ImageSender → Option SocketAddr
+address_of None = None
+address_of (Some sender) = sender.address
 
 -- when something of the publication of an image came last
 abbrev pub heard_of : Option ImageSender → ℕ

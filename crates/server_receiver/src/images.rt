@@ -9,15 +9,22 @@ ghost use Rattle.frame_core.specs.Setup.{IsUsable};
 ghost use Rattle.frame_core.specs.declared.refusal.Refusal.TheVariants.{NoMemory};
 ghost use Rattle.server_receiver.specs.Resuming.{HearsAt, HearsIn, HearsStand, ResumesBy, heartbeat_of};
 ghost use Rattle.server_receiver.specs.Datagrams.{AsksAfter, AsksOf, BegunBy, GivesNext, HandledAt, HandlesFrames, HandlesIn, HasNext, IsPlaced, Joins, JoinsBy, LacksBlock, SendsRequest, Takes, TakesNext, TakesFrames, has_block_of, has_publication, image_at, image_of, image_with, is_full_image, is_full_of, join_point, place_for_next, publication_of_setup, put_image, unknown_of, vacated_at};
+ghost use Rattle.server_receiver.specs.Strangers.{SetsUpImage, has_setup_terms, has_terms_of, image_named, named_publication};
 
-use frame_core::limits::MAX_BLOCK_LENGTH;
-use frame_core::{Block, FrameKind, FrameRef, Publication, Refusal, Setup, frames_of_datagram};
+use frame_core::limits::{HEADER_LENGTH, MAX_BLOCK_LENGTH};
+use frame_core::{
+    Block, FrameKind, FrameRef, Geometry, Publication, Refusal, Setup, frames_of_datagram, read_i32,
+};
 use image_core::BoundedImage;
 use recorder_seats::DatagramEnd;
 use std::alloc::Global;
 use std::marker::Model;
 use stream_pairs::{MAX_IMAGES, Place, StreamPoint};
 
+/// Where a frame and a setup frame name their publication.
+const SESSION_ID_AT: usize = 12;
+
+const STREAM_ID_AT: usize = 16;
 /// The flags of a frame that is a whole message.
 const UNFRAGMENTED: u8 = 192;
 
@@ -61,8 +68,10 @@ pub enum DatagramOutcome {
         /// Whether they were lost past the stock.
         is_lost: bool,
     },
-    /// Frames of a publication that has no image, while there is a place for one.
+    /// Frames of a publication that has no image.
     Unknown(Publication),
+    /// The setup frame of a publication that has no image, and for which there is no place.
+    NoPlace(Publication),
     /// No datagram of frames, or frames or the setup frame of an image for which there was no memory.
     Refused(Refusal),
 }
@@ -113,6 +122,36 @@ impl Images {
             .position(|image| has_publication(image, publication))
     }
 
+    /// The place of the image of the publication that a datagram names, where a frame and a setup frame do. Nothing else of it is
+    /// read.
+    pub(crate) fn image_named(&self, datagram: &[u8]) -> Option<Place>
+        ensures { result ≡ image_named datagram.now self.now }
+    {
+        match named_publication(datagram) {
+            Some(publication) => self.index_of(&publication),
+            None => None,
+        }
+    }
+
+    /// Whether a datagram is a setup frame with the terms of the image at a place.
+    pub(crate) fn sets_up(&self, place: Place, datagram: &[u8]) -> bool
+        ensures { SetsUpImage datagram.now (image_at place self.now) result }
+    {
+        match Setup::decode(datagram) {
+            Ok(setup) => self.has_terms(place, &setup),
+            Err(_) => false,
+        }
+    }
+
+    fn has_terms(&self, place: Place, setup: &Setup) -> bool
+        ensures { result ≡ has_terms_of (image_at place self.now) setup.now }
+    {
+        match self.get(place) {
+            Some(image) => has_setup_terms(image.geometry(), setup),
+            None => false,
+        }
+    }
+
     /// The place of one image more: the least without one, or the next one, of 64.
     fn place_for_next(&self) -> Option<Place>
         ensures { result ≡ place_for_next self.now }
@@ -122,6 +161,13 @@ impl Images {
             None if self.images.len() < MAX_IMAGES => Some(self.images.len()),
             None => None,
         }
+    }
+
+    /// Whether there is a place for one image more.
+    pub(crate) fn has_place(&self) -> bool
+        ensures { result ≡ is_some (place_for_next self.now) }
+    {
+        self.place_for_next().is_some()
     }
 
     /// The least place without an image.
@@ -175,7 +221,7 @@ impl Images {
     {
         match self.image_of(frames) {
             Some(place) => self.offer_to(place, frames),
-            None => self.unknown(frames),
+            None => unknown(frames),
         }
     }
 
@@ -186,19 +232,6 @@ impl Images {
         match frames.first() {
             Some(frame) => self.index_of(&publication_of(frame)),
             None => None,
-        }
-    }
-
-    /// What frames are whose publication has no image.
-    fn unknown(&self, frames: &[FrameRef<'_>]) -> DatagramOutcome
-        ensures { result ≡ unknown_of (map frame_of frames.now) self.now }
-    {
-        if self.place_for_next().is_none() {
-            return DatagramOutcome::Nothing;
-        }
-        match frames.first() {
-            Some(frame) => DatagramOutcome::Unknown(publication_of(frame)),
-            None => DatagramOutcome::Nothing,
         }
     }
 
@@ -279,7 +312,7 @@ impl Images {
         ensures { BegunBy setup.now self.old self.new result }
     {
         let Some(place) = self.place_for_next() else {
-            return DatagramOutcome::Nothing;
+            return DatagramOutcome::NoPlace(publication_of_setup(setup));
         };
         let Ok(image) = BoundedImage::from_setup(self.alloc, setup) else {
             unreachable!();
@@ -341,6 +374,16 @@ impl Images {
     }
 }
 
+/// What frames are whose publication has no image.
+fn unknown(frames: &[FrameRef<'_>]) -> DatagramOutcome
+    ensures { result ≡ unknown_of (map frame_of frames.now) }
+{
+    match frames.first() {
+        Some(frame) => DatagramOutcome::Unknown(publication_of(frame)),
+        None => DatagramOutcome::Nothing,
+    }
+}
+
 /// The publication that a frame is of.
 fn publication_of(frame: &FrameRef<'_>) -> Publication
     ensures { result ≡ publication_of (frame_of frame.now) }
@@ -359,6 +402,28 @@ fn publication_of_setup(setup: &Setup) -> Publication
         session_id: setup.session_id,
         stream_id: setup.stream_id,
     }
+}
+
+/// The publication that a datagram names, where a frame and a setup frame do.
+fn named_publication(datagram: &[u8]) -> Option<Publication>
+    ensures { result ≡ named_publication datagram.now }
+{
+    if datagram.len() < HEADER_LENGTH {
+        return None;
+    }
+    Some(Publication {
+        session_id: read_i32(datagram, SESSION_ID_AT),
+        stream_id: read_i32(datagram, STREAM_ID_AT),
+    })
+}
+
+/// Whether a setup frame has these terms.
+fn has_setup_terms(geometry: &Geometry, setup: &Setup) -> bool
+    ensures { result ≡ has_setup_terms geometry.now setup.now }
+{
+    setup.initial_term_id == geometry.initial_term_id
+        && setup.term_length == geometry.term_length
+        && setup.mtu == geometry.mtu
 }
 
 /// Whether a place has an image of a publication.

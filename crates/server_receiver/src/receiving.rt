@@ -1,14 +1,19 @@
 //! The thread that receives datagrams. docs/ARCHITECTURE.md, "Serving".
 
+use crate::admission::{Course, Courses};
+use crate::ages::Ages;
 use crate::ends::UdpEnd;
 use crate::giving::{give, give_all, give_round};
 use crate::images::{DatagramOutcome, Images};
 use crate::leaving::Leaving;
 use crate::metering::Metering;
+use crate::networks::Networks;
+use crate::no_places::NoPlaces;
 use crate::recorded_streams::is_recorded_stream;
 use crate::resuming::ResumedImages;
 use crate::senders::Senders;
 use crate::standing::{GapTold, StandingGaps};
+use crate::strangers::Strangers;
 use crate::unresumed::UnresumedPublications;
 use recorder_seats::DatagramEnd;
 use server_state::{GapNews, Happening, ImageNews, Reporter, Resumes, Shared, Stopwatch};
@@ -33,12 +38,14 @@ pub struct Reception<'a, R, T> {
     pub(crate) rt: &'a R,
     alloc: Global,
     pub(crate) shared: &'a Shared<T>,
-    end: UdpEnd<'a>,
+    pub(crate) end: UdpEnd<'a>,
     pub(crate) images: Images,
     /// The senders of images, if the server is a receiver of the public standard.
     pub(crate) senders: Option<Senders>,
     /// Streams whose publications are recorded without being asked.
-    streams: &'a [i32],
+    pub(crate) streams: &'a [i32],
+    /// The networks that datagrams are taken from.
+    networks: Networks,
     /// Images that leave.
     pub(crate) leaving: Leaving,
     watch: Stopwatch,
@@ -52,6 +59,14 @@ pub struct Reception<'a, R, T> {
     pub(crate) resumed: ResumedImages,
     /// Publications that don't resume for a while.
     pub(crate) unresumed: UnresumedPublications,
+    /// Which images something came for from another address.
+    pub(crate) strangers: Strangers,
+    /// How images are recorded.
+    pub(crate) courses: Courses,
+    /// Since when images are there.
+    pub(crate) ages: Ages,
+    /// Publications that got no place.
+    pub(crate) no_places: NoPlaces,
     /// Gaps of images.
     gaps: StandingGaps,
     /// When it is looked next for gaps that stand.
@@ -69,6 +84,7 @@ impl<'a, R: Wait + Clock, T: Reporter> Reception<'a, R, T> {
         images: Images,
         senders: Option<Senders>,
         streams: &'a [i32],
+        networks: Networks,
     ) -> Reception<'a, R, T> {
         Reception {
             rt,
@@ -78,6 +94,7 @@ impl<'a, R: Wait + Clock, T: Reporter> Reception<'a, R, T> {
             images,
             senders,
             streams,
+            networks,
             leaving: Leaving::new(),
             watch: Stopwatch::new(rt),
             tends_at: 0,
@@ -85,6 +102,10 @@ impl<'a, R: Wait + Clock, T: Reporter> Reception<'a, R, T> {
             records_at: 0,
             resumed: ResumedImages::new(),
             unresumed: UnresumedPublications::new(),
+            strangers: Strangers::new(),
+            courses: Courses::new(),
+            ages: Ages::new(),
+            no_places: NoPlaces::new(),
             gaps: StandingGaps::new(),
             watches_at: 0,
             metering: Metering::new(),
@@ -105,12 +126,12 @@ impl<'a, R: Wait + Clock, T: Reporter> Reception<'a, R, T> {
                 break;
             }
             let now = self.now();
-            self.take(&buffer[..count], now);
             let is_round = self.shared.takes_round();
             if is_round {
                 self.return_all(now);
                 first = give_round(self.rt, self.shared, &mut self.images, &self.leaving, first);
             }
+            self.take(&buffer[..count], now);
             self.tend_by_time(is_round, now);
             self.see_off_by_time(now);
             self.record_by_time(now);
@@ -136,7 +157,14 @@ impl<'a, R: Wait + Clock, T: Reporter> Reception<'a, R, T> {
             return;
         }
         self.shared.counts.datagrams.add(1);
-        let mut outcome = self.images.take_datagram(datagram);
+        if !self.networks.takes(self.end.sender()) {
+            self.shared.places.foreign.add(1);
+            return;
+        }
+        if self.take_strange(datagram, now) {
+            return;
+        }
+        let mut outcome = self.take_into_images(datagram, now);
         if self.shared.meter.is_on() {
             self.metering.note(&outcome, datagram, &self.images);
         }
@@ -144,6 +172,7 @@ impl<'a, R: Wait + Clock, T: Reporter> Reception<'a, R, T> {
             DatagramOutcome::Joined { place, point } => {
                 let (sender, resumes) = (self.end.sender(), self.resumes(&point, now));
                 self.note_joined(point, sender, resumes);
+                self.ages.join(place, now.unwrap_or(0));
                 outcome = self.joined_outcome(place, outcome, now);
             }
             DatagramOutcome::Frames { place, is_lost } => self.note_frames(place, is_lost),
@@ -222,7 +251,7 @@ impl<'a, R: Wait + Clock, T: Reporter> Reception<'a, R, T> {
         }
     }
 
-    fn note_request(&self, place: Place, has_asked: bool) {
+    pub(crate) fn note_request(&self, place: Place, has_asked: bool) {
         if let Some(counts) = self.shared.counts.of(place) {
             if has_asked {
                 counts.requests.add(1);
@@ -239,10 +268,12 @@ impl<'a, R: Wait + Clock, T: Reporter> Reception<'a, R, T> {
         }
     }
 
-    /// Hands on blocks of an image, and sends what is due to its sender, as a receiver of the public standard does.
+    /// Hands on blocks of an image, and sends what is due to its sender, as a receiver of the public standard does. How a new image is
+    /// recorded is looked at first: a session may wait for it.
     fn answer(&mut self, outcome: &DatagramOutcome, now: Option<u64>) {
         if let DatagramOutcome::Frames { place, .. } = outcome {
             self.give(*place);
+            self.ask_to_begin(*place);
         }
         let Some(now) = now else {
             return;
@@ -250,10 +281,25 @@ impl<'a, R: Wait + Clock, T: Reporter> Reception<'a, R, T> {
         let from = self.end.sender();
         if let Some(senders) = self.senders.as_mut() {
             senders.note(outcome, from, now);
-            senders.ask_for_setup(&mut self.end, outcome, from, now);
+        }
+        self.ask_for_setup(outcome, from, now);
+        if let DatagramOutcome::Joined { place, .. } = outcome {
+            self.look_at(*place);
         }
         if let Some(place) = self.image_in(outcome) {
             self.tend(place, now);
+        }
+    }
+
+    /// Asks for the setup frame of frames whose publication has no image and may get a place.
+    fn ask_for_setup(&mut self, outcome: &DatagramOutcome, from: Option<SocketAddr>, now: u64) {
+        if let DatagramOutcome::Unknown(publication) = outcome {
+            if !self.may_get_place(publication, now) {
+                return;
+            }
+        }
+        if let Some(senders) = self.senders.as_mut() {
+            senders.ask_for_setup(&mut self.end, outcome, from, now);
         }
     }
 
@@ -272,30 +318,8 @@ impl<'a, R: Wait + Clock, T: Reporter> Reception<'a, R, T> {
         give(self.rt, self.shared, &mut self.images, &self.leaving, place)
     }
 
-    /// Sends what is due to the sender of an image, unless the image leaves.
-    fn tend(&mut self, place: Place, now: u64) {
-        if self.leaving.contains(place) {
-            return;
-        }
-        let is_recorded = self.is_status_due(place, now) && self.shared.is_recorded(self.rt, place);
-        let has_asked = match (self.senders.as_mut(), self.images.get(place)) {
-            (Some(senders), Some(known)) => {
-                senders.tend(&mut self.end, place, known, is_recorded, now)
-            }
-            _ => false,
-        };
-        self.note_request(place, has_asked);
-    }
-
-    /// Whether it is time for a status message to the sender of an image, if it is recorded.
-    fn is_status_due(&self, place: Place, now: u64) -> bool {
-        match (&self.senders, self.images.get(place)) {
-            (Some(senders), Some(known)) => senders.is_status_due(place, known, now),
-            _ => false,
-        }
-    }
-
-    /// Sends what is due to all senders, each 10 milliseconds, and when blocks of all images were looked for.
+    /// Sends what is due to all senders, each 10 milliseconds, and when blocks of all images were looked for. Then it is looked too how
+    /// they are recorded: a round follows each session that is opened, and each settle that a sender waits for.
     fn tend_by_time(&mut self, is_round: bool, now: Option<u64>) {
         let Some(now) = now else {
             return;
@@ -305,6 +329,9 @@ impl<'a, R: Wait + Clock, T: Reporter> Reception<'a, R, T> {
         }
         self.tends_at = now.saturating_add(TENDING);
         for place in 0..self.images.len() {
+            if is_round {
+                self.look_at(place);
+            }
             self.tend(place, now);
         }
     }
@@ -397,7 +424,9 @@ impl<'a, R: Wait + Clock, T: Reporter> Reception<'a, R, T> {
         let Some(now) = now else {
             return;
         };
+        self.metering.note_time(now);
         if self.metering.is_due(now) {
+            self.count_images(now);
             let statuses = self.end.statuses();
             self.metering.measure(
                 self.rt,
@@ -448,6 +477,8 @@ impl<'a, R: Wait + Clock, T: Reporter> Reception<'a, R, T> {
         self.images.remove(place);
         self.leaving.remove(place);
         self.gaps.forget(place);
+        self.strangers.set(place, false);
+        self.courses.set(place, Course::Waits);
         if self.resumed.at(place).is_some() {
             self.shared.counts.resumed_ends.add(1);
             self.resumed.forget(place);

@@ -47,16 +47,17 @@ impl<R: Wait + Clock, T: Reporter> Reception<'_, R, T> {
         requires begins { IsUsable begin.now }
         requires stands { IsUsable stand.now }
     {
+        let sender = self.sender_address(place);
         self.give_back(place);
         let outcome = self.images.resume(begin, stand);
         if let DatagramOutcome::Joined { place, point } = outcome {
-            let sender = resumption.image.sender;
             self.note_joined(point, sender, Resumes::Yes);
             if let Some(senders) = self.senders.as_mut() {
                 senders.note(&outcome, sender, now);
             }
             let to = resumption.image.point.position;
             self.resumed.begin(place, point.position, to, now);
+            self.ages.join(place, now);
             self.metering.forget(place);
             self.report_resumed(place, resumption);
             self.ask_to_record(place);
@@ -70,13 +71,14 @@ impl<R: Wait + Clock, T: Reporter> Reception<'_, R, T> {
         };
         let point = &resumption.image.point;
         let from = resumption.stand.position;
-        self.shared.report_resume(ResumeNews::Resumes {
+        let news = ResumeNews::Resumes {
             image: key.number,
             publication: point.publication,
             from,
             recording: resumption.stand.recording,
             bytes: bytes_between(from, point.position),
-        });
+        };
+        self.shared.report_resume(self.rt, news);
     }
 
     /// Looks whether the image at a place that resumes has what was missing, or has to be given up.
@@ -108,12 +110,13 @@ impl<R: Wait + Clock, T: Reporter> Reception<'_, R, T> {
         let Some(key) = self.shared.key_at(self.rt, place) else {
             return;
         };
-        self.shared.report_resume(ResumeNews::Filled {
+        let news = ResumeNews::Filled {
             image: key.number,
             bytes: bytes_between(image.from, image.to),
             to: image.to,
             millis: now.saturating_sub(image.begun),
-        });
+        };
+        self.shared.report_resume(self.rt, news);
     }
 
     /// An image leaves that nothing was sent again for. Its publication does not resume for a while. What a client's session misses
@@ -125,12 +128,13 @@ impl<R: Wait + Clock, T: Reporter> Reception<'_, R, T> {
         let (publication, from) = (*known.publication(), known.rebuilt());
         self.unresumed.note(publication, Resumes::NoRepeat, now);
         if self.feeds_a_clients_session(place) {
-            self.shared.report_resume(ResumeNews::Hole {
+            let news = ResumeNews::Hole {
                 publication,
                 from,
                 to: image.to,
                 cause: HoleCause::NoRepeat,
-            });
+            };
+            self.shared.report_resume(self.rt, news);
         }
         self.leave(place);
     }

@@ -1,10 +1,13 @@
 //! What the senders of images are sent, if the server is a receiver of the public standard. docs/PROTOCOL.md, "Status messages
 //! and NAKs of a receiver".
 
-ghost use Rattle.std.specs.Prelude.{◌≡◌, [], IfOk, slice_get};
+ghost use Rattle.std.specs.Prelude.{◌≡◌, [], IfOk, MatchBool, slice_get};
 ghost use Rattle.flow_control.specs.Windows.{has_window};
-ghost use Rattle.server_receiver.specs.Senders.{AsksForSetup, AsksPublication, ChangesAt, Hears, Notes, SetsUp, SendsRequestDue, SendsStatusDue, Tends, TendsIf, TendsTo, heard_of, is_gone, is_silent, is_status_due_to, most_for, new_sender, with_sender};
+ghost use Rattle.server_receiver.specs.Senders.{AsksForSetup, AsksPublication, ChangesAt, Hears, Notes, SetsUp, SendsRequestDue, SendsStatusDue, Tends, TendsIf, StatusForgotten, TendsTo, address_of, heard_of, is_due_by, is_gone, is_silent, is_status_due_to, new_sender, with_sender};
+ghost use Rattle.server_receiver.specs.Admission.{admission_of, most_for};
+ghost use Rattle.server_receiver.specs.Strangers.{IsElsewhere, is_sender_silent};
 
+use crate::admission::{Admission, Course, admission_of};
 use crate::images::DatagramOutcome;
 use flow_control::{Feedback, SetupRequests, five_sixteenths, setup_request, window_of};
 use frame_core::{Geometry, Publication};
@@ -15,7 +18,7 @@ use std::net::SocketAddr;
 use stream_pairs::{MAX_IMAGES, Place};
 
 /// Milliseconds without a datagram from an image's sender after which another address may take its place.
-const SILENCE: u64 = 10_000;
+const SILENCE: u64 = 2_000;
 
 /// The end that frames for senders go out by.
 pub trait SenderEnd {
@@ -40,7 +43,7 @@ pub struct Receiver {
 }
 
 /// The greatest window of a publication with these terms, in bytes: the receiver's, but at most five sixteenths of a term.
-fn most_for(receiver: &Receiver, geometry: &Geometry) -> i32
+pub(crate) fn most_for(receiver: &Receiver, geometry: &Geometry) -> i32
     ensures { result ≡ most_for receiver.now geometry.now }
 {
     receiver.window.min(five_sixteenths(geometry) as i32)
@@ -69,6 +72,13 @@ impl ImageSender {
         }
     }
 
+    /// Whether it is at an address.
+    fn is_at(&self, from: Option<SocketAddr>) -> bool
+        ensures { MatchBool result (self.now.address ≡ from) (self.now.address ≡ from → ⊥) }
+    {
+        self.address == from
+    }
+
     /// A datagram of the publication came.
     fn hear(&mut self, from: Option<SocketAddr>, now: u64)
         ensures { Hears from now self.old self.new }
@@ -79,7 +89,7 @@ impl ImageSender {
         self.feedback.hear(now);
     }
 
-    /// Whether nothing came from the address for 10,000 milliseconds.
+    /// Whether nothing came from the address for 2,000 milliseconds.
     fn is_silent(&self, now: u64) -> bool
         ensures { result ≡ is_silent now self.now }
     {
@@ -99,50 +109,51 @@ impl ImageSender {
         }
     }
 
+    /// Whether a status message is due, if the sender is admitted so much.
+    fn is_due_by(&self, admission: Option<Admission>, image: &BoundedImage, now: u64) -> bool
+        ensures { result ≡ is_due_by admission now image.now self.now.feedback }
+    {
+        match admission {
+            Some(Admission { most, bound }) => self.feedback.is_status_due(now, image, most, bound),
+            None => false,
+        }
+    }
+
     /// Sends what is due. Whether a NAK was.
     fn tend<E: SenderEnd>(
         &mut self,
         end: &mut E,
         image: &BoundedImage,
         receiver: &Receiver,
-        is_recorded: bool,
+        admission: Option<Admission>,
         now: u64,
     ) -> bool
-        ensures { TendsIf E.puts is_recorded now receiver.now image.now self.old.address self.old end.old self.new end.new result }
+        ensures { TendsIf E.puts admission now receiver.now image.now self.old.address self.old end.old self.new end.new result }
     {
         let Some(to) = self.address else {
             return false;
         };
-        send_status(
-            &mut self.feedback,
-            end,
-            to,
-            image,
-            receiver,
-            is_recorded,
-            now,
-        );
+        send_status(&mut self.feedback, end, to, image, receiver, admission, now);
         send_request(&mut self.feedback, end, to, image, now)
     }
 }
 
-/// Sends the status message that is due, if the image is recorded.
+/// Sends the status message that is due, if the sender is admitted anything.
 fn send_status<E: SenderEnd>(
     feedback: &mut Feedback,
     end: &mut E,
     to: SocketAddr,
     image: &BoundedImage,
     receiver: &Receiver,
-    is_recorded: bool,
+    admission: Option<Admission>,
     now: u64,
 )
-    ensures { SendsStatusDue E.puts is_recorded now receiver.now image.now to feedback.old end.old feedback.new end.new }
+    ensures { SendsStatusDue E.puts admission now receiver.now image.now to feedback.old end.old feedback.new end.new }
 {
-    if !is_recorded {
+    let Some(Admission { most, bound }) = admission else {
         return;
-    }
-    let most = most_for(receiver, image.geometry());
-    if let Some(status) = feedback.status(now, image, most, None, receiver.id) {
+    };
+    if let Some(status) = feedback.status(now, image, most, bound, receiver.id) {
         end.put(&status.encode(), to);
     }
 }
@@ -235,15 +246,37 @@ impl Senders {
         }
     }
 
-    /// Whether a status message is due to the sender of an image, if the image is recorded. If not, [`tend`](Senders::tend)
-    /// does the same for one that is recorded and one that is not.
-    pub fn is_status_due(&self, place: Place, image: &BoundedImage, now: u64) -> bool
-        ensures { result ≡ is_status_due_to (slice_get self.now.senders place) now self.now.receiver image.now }
+    /// Whether a status message is due to the sender of an image that is admitted so much. If not, [`tend`](Senders::tend) does the
+    /// same for one that is admitted nothing.
+    pub fn is_status_due(
+        &self,
+        place: Place,
+        image: &BoundedImage,
+        admission: Option<Admission>,
+        now: u64,
+    ) -> bool
+        ensures { result ≡ is_status_due_to (slice_get self.now.senders place) admission now image.now }
     {
-        let most = most_for(&self.receiver, image.geometry());
         match self.senders.as_slice().get(place) {
-            Some(sender) => sender.feedback.is_status_due(now, image, most, None),
+            Some(sender) => sender.is_due_by(admission, image, now),
             None => false,
+        }
+    }
+
+    /// What the sender of an image with these terms is admitted that is recorded so.
+    pub(crate) fn admission_of(&self, geometry: &Geometry, course: Course) -> Option<Admission>
+        ensures { result ≡ admission_of self.now.receiver geometry.now course }
+    {
+        admission_of(&self.receiver, geometry, course)
+    }
+
+    /// The last status message to the sender of the image at a place is forgotten: another one is due at once.
+    pub(crate) fn forget_status(&mut self, place: Place)
+        ensures senders { ChangesAt place (slice_get self.old.senders place) self.old.senders self.new.senders StatusForgotten }
+        ensures same { self.new ≡ record self.old { senders = self.new.senders } }
+    {
+        if let Some(sender) = self.senders.get_mut(place) {
+            sender.feedback.status = None;
         }
     }
 
@@ -267,7 +300,40 @@ impl Senders {
         }
     }
 
-    fn set_up(&mut self, place: Place, from: Option<SocketAddr>, now: u64)
+    /// Where the sender of the image at a place is.
+    pub(crate) fn address(&self, place: Place) -> Option<SocketAddr>
+        ensures { result ≡ address_of (slice_get self.now.senders place) }
+    {
+        match self.senders.as_slice().get(place) {
+            Some(sender) => sender.address,
+            None => None,
+        }
+    }
+
+    /// Whether something came from another address than the sender of the image at a place.
+    pub(crate) fn is_elsewhere(&self, place: Place, from: Option<SocketAddr>) -> bool
+        ensures { MatchBool result
+            (IsElsewhere from (slice_get self.now.senders place))
+            (IsElsewhere from (slice_get self.now.senders place) → ⊥) }
+    {
+        match self.senders.as_slice().get(place) {
+            Some(sender) => !sender.is_at(from),
+            None => false,
+        }
+    }
+
+    /// Whether nothing came from the sender of the image at a place for 2,000 milliseconds.
+    pub(crate) fn is_silent(&self, place: Place, now: u64) -> bool
+        ensures { result ≡ is_sender_silent now (slice_get self.now.senders place) }
+    {
+        match self.senders.as_slice().get(place) {
+            Some(sender) => sender.is_silent(now),
+            None => false,
+        }
+    }
+
+    /// A setup frame of the image at a place came.
+    pub(crate) fn set_up(&mut self, place: Place, from: Option<SocketAddr>, now: u64)
         ensures senders { ChangesAt place (slice_get self.old.senders place) self.old.senders self.new.senders (SetsUp from now) }
         ensures same { self.new ≡ record self.old { senders = self.new.senders } }
     {
@@ -285,20 +351,20 @@ impl Senders {
         }
     }
 
-    /// Sends what is due to the sender of an image: a status message, if a session that is open has the image, and a NAK.
+    /// Sends what is due to the sender of an image: a status message, if it is admitted anything, and a NAK.
     /// Whether a NAK was. Does not allocate.
     pub fn tend<E: SenderEnd>(
         &mut self,
         end: &mut E,
         place: Place,
         image: &BoundedImage,
-        is_recorded: bool,
+        admission: Option<Admission>,
         now: u64,
     ) -> bool
-        ensures { Tends E.puts place is_recorded now image.now self.old end.old self.new end.new result }
+        ensures { Tends E.puts place admission now image.now self.old end.old self.new end.new result }
     {
         match self.senders.get_mut(place) {
-            Some(sender) => sender.tend(end, image, &self.receiver, is_recorded, now),
+            Some(sender) => sender.tend(end, image, &self.receiver, admission, now),
             None => false,
         }
     }
@@ -319,7 +385,8 @@ impl Senders {
         }
     }
 
-    fn ask_publication<E: SenderEnd>(
+    /// Asks an address for a publication's setup frame, if the publication was not asked within the last 200 milliseconds.
+    pub(crate) fn ask_publication<E: SenderEnd>(
         &mut self,
         end: &mut E,
         publication: &Publication,

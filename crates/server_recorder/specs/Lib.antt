@@ -8,3 +8,7 @@ pub mod Recording
 pub mod Stopping
 -- How many recordings the server begins.
 pub mod Tokens
+-- What is done for an image that waits to be recorded.
+pub mod Opening
+-- Holes between recordings of one publication.
+pub mod Holes

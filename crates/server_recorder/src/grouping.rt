@@ -3,7 +3,7 @@
 
 use crate::checkpoints::keep_short;
 use crate::flushing::Flushing;
-use crate::recording::{Recording, note_settled, note_time, settle};
+use crate::recording::{Recording, SYNCS, note_settled, note_time, settle_alone};
 use crate::seats::Seats;
 use crate::settling::Settling;
 use archive_lock::Naming;
@@ -18,9 +18,9 @@ use stream_pairs::{FED_SESSIONS, Seat};
 /// Syncs of the disk beside those of the segment files.
 const BANK_SYNCS: usize = 2;
 
-/// Settles each session that is due now; all of them if no more blocks come. One that is due alone settles by itself. Where there
-/// are several they settle together, with those that have waited for at least half as long as a block may; where nothing was done
-/// by that, each settles by itself.
+/// Settles each session that is due now; all of them if no more blocks come. Where syncs are slow, their segment files are flushed
+/// first, beside the lock. One that is due alone settles by itself. Where there are several they settle together, with those that
+/// have waited for at least half as long as a block may; where nothing was done by that, each settles by itself.
 pub(crate) fn settle_due<D: Disk, A: Naming, R: Wait + Clock, T: Reporter>(
     with: &Recording<'_, D, A, R, T>,
     seats: &mut Seats<A>,
@@ -29,17 +29,35 @@ pub(crate) fn settle_due<D: Disk, A: Naming, R: Wait + Clock, T: Reporter>(
     flushing: &Flushing,
 ) {
     let mut due = due_seats(settling, with.shared.queue.has_block(with.rt), taken);
-    if count(&due) > 1 {
+    let due_count = count(&due);
+    if due_count == 0 {
+        return;
+    }
+    if due_count > 1 {
         add_near(settling, &mut due);
-        if let Some(group) = seats_of(with.alloc, &due) {
-            if settle_group(with, seats, settling, group.as_slice(), flushing) {
-                return;
-            }
+    }
+    let mut is_flushed = false;
+    if let Some(group) = seats_of(with.alloc, &due) {
+        is_flushed = flush(with, seats, settling, group.as_slice(), flushing);
+        if due_count > 1 && settle_group(with, seats, settling, group.as_slice(), is_flushed) {
+            return;
         }
     }
+    settle_each(with, seats, settling, &due, is_flushed);
+}
+
+/// Settles the sessions at some seats, each by itself. `is_flushed`: their segment files were flushed.
+fn settle_each<D: Disk, A: Naming, R: Wait + Clock, T: Reporter>(
+    with: &Recording<'_, D, A, R, T>,
+    seats: &mut Seats<A>,
+    settling: &mut Settling,
+    due: &[bool; FED_SESSIONS],
+    is_flushed: bool,
+) {
+    let syncs = if is_flushed { 0 } else { SYNCS };
     for seat in 0..FED_SESSIONS {
         if due[seat] {
-            let _ = settle(with, seats, settling, seat);
+            let _ = settle_alone(with, seats, settling, seat, syncs);
         }
     }
 }
@@ -86,20 +104,20 @@ fn seats_of(alloc: Global, seats: &[bool; FED_SESSIONS]) -> Option<Vec<Seat>> {
 }
 
 /// Settles the sessions of several seats together. Whether that was done, or failed in a way that leaves each of them refused: a
-/// refusal for want of room or of memory is none, since one session alone may need less.
+/// refusal for want of room or of memory is none, since one session alone may need less. `is_flushed`: their segment files were
+/// flushed.
 fn settle_group<D: Disk, A: Naming, R: Wait + Clock, T: Reporter>(
     with: &Recording<'_, D, A, R, T>,
     seats: &mut Seats<A>,
     settling: &mut Settling,
     group: &[Seat],
-    flushing: &Flushing,
+    is_flushed: bool,
 ) -> bool {
     for seat in group {
         if let Some(written) = settling.written(*seat) {
             seats.set_session(*seat, written.session);
         }
     }
-    let is_flushed = flush(with, seats, settling, group, flushing);
     let watch = Stopwatch::new(with.rt);
     let (answer, standing) = seats.settle_all(with.rt, with.alloc, with.archive, group);
     let is_done = match answer {

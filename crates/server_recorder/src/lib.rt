@@ -4,10 +4,12 @@
 mod checkpoints;
 mod flushing;
 mod grouping;
+mod opening;
 mod own_recordings;
 mod recording;
 mod seats;
 mod settling;
+mod standing_holes;
 mod stopping;
 mod streams;
 mod tokens;

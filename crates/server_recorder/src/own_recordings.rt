@@ -1,12 +1,15 @@
 //! Recordings that the server starts by itself. docs/SERVING.md, "Recording without being asked".
 
 ghost use Rattle.std.specs.Prelude.{◌≡◌, None, replicate, slice_set};
+ghost use Rattle.server_recorder.specs.Opening.{is_past};
 ghost use Rattle.server_recorder.specs.Seats.{MakesCall};
 
 use crate::checkpoints::keep_short;
+use crate::opening::{Opening, OwnRecording, is_left_empty, opening_for};
 use crate::recording::Recording;
 use crate::seats::Seats;
-use crate::streams::{Finding, extend_fields, finding_for, stand_before, start_fields};
+use crate::standing_holes::standing_holes;
+use crate::streams::{extend_fields, finding_for, stand_before, start_fields};
 use crate::tokens::Tokens;
 use archive_lock::{Naming, Standing};
 use archive_model::{Channel, Descriptor, Reply, SourceIdentity};
@@ -15,8 +18,8 @@ use disk_core::Disk;
 use frame_core::limits::MAX_LIST;
 use frame_core::{Items, Refusal};
 use server_state::{
-    Found, Happening, HoleCause, ImageNews, Reporter, ResumeNews, Resumes, Stand, Taken,
-    WaitingImage, resume_reach,
+    Found, Happening, HoleCause, ImageNews, PlaceNews, Reporter, ResumeNews, Resumes, Shared,
+    Stand, Taken, WaitingImage, resume_reach,
 };
 use std::alloc::{AllocError, Global};
 use std::net::SocketAddr;
@@ -27,13 +30,15 @@ use stream_pairs::{ImageNumber, MAX_IMAGES, Place, StreamPoint};
 
 /// Milliseconds of an hour.
 const HOUR: u64 = 3_600_000;
+/// Milliseconds between two looks for how many recordings stand.
+const COUNTING: u64 = 10_000;
 
 /// Recordings that the server starts by itself, by the places of their images.
 #[derive(Clone, Copy)]
 pub struct OwnRecordings {
     /// Bytes of a segment, or fewer than a term has.
     segment_length: i32,
-    recordings: [Option<i64>; MAX_IMAGES],
+    recordings: [Option<OwnRecording>; MAX_IMAGES],
     /// By place why the image that is there is not recorded, as it was reported last.
     refused: [Option<Refusal>; MAX_IMAGES],
     /// When it was reported last that there are as many recordings as there may be, in milliseconds.
@@ -98,24 +103,20 @@ impl OwnRecordings {
         };
         let may_begin = self.may_begin(now);
         match open(with, seats, &image, may_begin, self.segment_length) {
-            Ok(
-                Opened::Recorded {
-                    recording,
-                    is_new,
-                    before,
-                },
-            ) => {
-                self.note_begun(is_new, now);
-                self.set(place, Some(recording), None);
+            Ok(Opened::Recorded { own, before }) => {
+                self.note_begun(own.begun_at.is_some(), now);
+                self.set(place, Some(own), None);
                 found(with, &image, Found::Recorded);
                 with.shared.report(&Happening::Image(ImageNews::Recorded {
                     image: image.key.number,
-                    recording,
+                    recording: own.recording,
                 }));
                 report_before(with, &image, before);
+                self.stop_if_left(with, seats, &image);
             }
             Ok(Opened::StandsBefore(stand)) => found(with, &image, Found::Stands(stand)),
-            Ok(Opened::MayNotBegin) => self.report_late(with, &image),
+            Ok(Opened::AwaitsBlock) => found(with, &image, Found::Nothing),
+            Ok(Opened::IsLate) => self.report_late(with, &image),
             Err(cause) => {
                 with.shared.found(with.rt, &image.key, Found::Refused);
                 self.report(with, place, &image, cause, now);
@@ -151,6 +152,7 @@ impl OwnRecordings {
         if place < MAX_IMAGES && self.late[place] != number {
             self.late[place] = number;
             let image = image.key.number;
+            with.shared.places.late.add(1);
             with.shared
                 .report(&Happening::Image(ImageNews::TooManyBegun { image }));
         }
@@ -164,6 +166,9 @@ impl OwnRecordings {
         cause: Refusal,
         now: Option<u64>,
     ) {
+        if self.refused(place) != Some(cause) {
+            with.shared.places.refuse(cause);
+        }
         if self.is_new(place, cause, now) {
             self.set(place, None, Some(cause));
             with.shared.report(&Happening::Image(ImageNews::NotRecorded {
@@ -173,22 +178,39 @@ impl OwnRecordings {
         }
     }
 
-    /// The image at a place leaves: its recording is stopped, if the server started it.
+    /// An image that has left meanwhile: its recording is stopped.
+    fn stop_if_left<D: Disk, A: Naming, R: Wait + Clock, T: Reporter>(
+        &mut self,
+        with: &Recording<'_, D, A, R, T>,
+        seats: &mut Seats<A>,
+        image: &WaitingImage,
+    ) {
+        let place = image.key.place;
+        if with.shared.key_at(with.rt, place) != Some(image.key) {
+            self.stop(with, seats, place);
+        }
+    }
+
+    /// The image at a place leaves: its recording is stopped, if the server writes it. One that the server began, and by which nothing
+    /// was recorded, is purged.
     fn stop<D: Disk, A: Naming, R: Wait + Clock, T: Reporter>(
         &mut self,
         with: &Recording<'_, D, A, R, T>,
         seats: &mut Seats<A>,
         place: Place,
     ) {
-        let recording = self.recording(place);
+        let own = self.recording(place);
         self.set(place, None, None);
-        if let Some(recording) = recording {
-            let timestamp = milliseconds(with.rt);
-            let stop = Request::Stop {
-                recording,
-                timestamp,
-            };
-            let _ = call(with, seats, &Event::Ask(stop));
+        if let Some(own) = own {
+            let (is_purged, standing) = stop_own(with, seats, &own);
+            if let Some(standing) = standing {
+                keep_short(with, seats, &standing);
+            }
+            if is_purged {
+                with.shared.report(&Happening::Place(PlaceNews::Purged {
+                    recording: own.recording,
+                }));
+            }
         }
     }
 
@@ -204,13 +226,10 @@ impl OwnRecordings {
 
     /// Whether an hour has passed since it was reported that there are as many recordings as there may be.
     fn is_hour_past(&self, now: Option<u64>) -> bool {
-        match (self.full_at, now) {
-            (Some(last), Some(now)) => HOUR <= now.saturating_sub(last),
-            _ => true,
-        }
+        is_past(HOUR, self.full_at, now)
     }
 
-    fn recording(&self, place: Place) -> Option<i64> {
+    fn recording(&self, place: Place) -> Option<OwnRecording> {
         match self.recordings.get(place) {
             Some(recording) => *recording,
             None => None,
@@ -224,7 +243,7 @@ impl OwnRecordings {
         }
     }
 
-    fn set(&mut self, place: Place, recording: Option<i64>, refused: Option<Refusal>)
+    fn set(&mut self, place: Place, recording: Option<OwnRecording>, refused: Option<Refusal>)
         ensures { self.new ≡ record self.old {
           recordings = slice_set self.old.recordings place recording;
           refused = slice_set self.old.refused place refused;
@@ -237,25 +256,35 @@ impl OwnRecordings {
     }
 }
 
+/// Whether so many milliseconds have passed since a time. So it is if that is not known.
+fn is_past(millis: u64, last: Option<u64>, now: Option<u64>) -> bool
+    ensures { result ≡ is_past millis last now }
+{
+    match (last, now) {
+        (Some(last), Some(now)) => millis <= now.saturating_sub(last),
+        _ => true,
+    }
+}
+
 /// What came of an image that waits to be recorded.
 #[derive(Clone, Copy)]
 enum Opened {
     /// A recording was opened for it.
     Recorded {
-        /// Its id.
-        recording: i64,
-        /// Whether it is a new one.
-        is_new: bool,
+        /// The recording.
+        own: OwnRecording,
         /// Where the last recording of its publication ends, if this is a new one.
         before: Option<Stand>,
     },
     /// The last recording of its publication stands before its setup frame.
     StandsBefore(Stand),
+    /// A recording begins with its first block.
+    AwaitsBlock,
     /// A recording would begin, but as many have begun as may within a short time.
-    MayNotBegin,
+    IsLate,
 }
 
-/// Opens a session for an image that waits, unless it is to begin anew before, or no recording may begin.
+/// Opens a session for an image that waits, unless it is to begin anew before, has no block, or no recording may begin.
 fn open<D: Disk, A: Naming, R: Wait + Clock, T: Reporter>(
     with: &Recording<'_, D, A, R, T>,
     seats: &mut Seats<A>,
@@ -265,31 +294,79 @@ fn open<D: Disk, A: Naming, R: Wait + Clock, T: Reporter>(
 ) -> Result<Opened, Refusal> {
     let point = &image.point;
     let recordings = listed(with, seats)?;
-    match finding_for(recordings.as_slice(), point, image.resumes) {
-        Finding::Extends(recording) => {
+    let finding = finding_for(recordings.as_slice(), point, image.resumes);
+    match opening_for(finding, image.has_block, may_begin) {
+        Opening::GoesOn(recording) => {
             let fields = extend_fields(recording, point);
             call(with, seats, &Event::Ask(Request::Extend(fields)))?;
+            let begun_at = None;
             Ok(Opened::Recorded {
-                recording,
-                is_new: false,
+                own: OwnRecording {
+                    recording,
+                    begun_at,
+                },
                 before: None,
             })
         }
-        Finding::StandsBefore(stand) => Ok(Opened::StandsBefore(stand)),
-        Finding::Begins if !may_begin => Ok(Opened::MayNotBegin),
-        Finding::Begins => {
+        Opening::ResumesAt(stand) => Ok(Opened::StandsBefore(stand)),
+        Opening::AwaitsBlock => Ok(Opened::AwaitsBlock),
+        Opening::IsLate => Ok(Opened::IsLate),
+        Opening::Starts => {
             let before = stand_before(recordings.as_slice(), point);
             let recording = start(with, seats, point, image.sender, segment_length)?;
+            let begun_at = Some(point.position);
             Ok(Opened::Recorded {
-                recording,
-                is_new: true,
+                own: OwnRecording {
+                    recording,
+                    begun_at,
+                },
                 before,
             })
         }
     }
 }
 
-/// All recordings, by rising id.
+/// For how long the thread waits at most, so that it counts recordings in time for the metrics.
+pub(crate) fn wait_to_count<T: Reporter>(shared: &Shared<T>, wait: Option<u64>) -> Option<u64> {
+    if shared.meter.is_on() {
+        Some(wait.unwrap_or(COUNTING).min(COUNTING))
+    } else {
+        wait
+    }
+}
+
+/// How many recordings stand is noted, if it is time for it.
+pub(crate) fn count_recordings<D: Disk, A: Naming, R: Wait + Clock, T: Reporter>(
+    with: &Recording<'_, D, A, R, T>,
+    seats: &mut Seats<A>,
+    now: Option<u64>,
+    counted: &mut Option<u64>,
+) {
+    if is_past(COUNTING, *counted, now) {
+        *counted = now;
+        let _ = listed(with, seats);
+    }
+}
+
+/// Reports the holes that stand between recordings of one publication, if there are any. Without `--aeron` none are looked for.
+pub(crate) fn report_standing_holes<D: Disk, A: Naming, R: Wait + Clock, T: Reporter>(
+    with: &Recording<'_, D, A, R, T>,
+    seats: &mut Seats<A>,
+) {
+    if !with.shared.gives_back() {
+        return;
+    }
+    if let Ok(recordings) = listed(with, seats) {
+        let holes = standing_holes(recordings.as_slice());
+        let (count, bytes) = (holes.count, holes.bytes);
+        if count > 0 {
+            let news = ResumeNews::HolesStand { count, bytes };
+            with.shared.report_resume(with.rt, news);
+        }
+    }
+}
+
+/// All recordings, by rising id. How many there are is noted.
 fn listed<D: Disk, A: Naming, R: Wait + Clock, T: Reporter>(
     with: &Recording<'_, D, A, R, T>,
     seats: &mut Seats<A>,
@@ -299,7 +376,10 @@ fn listed<D: Disk, A: Naming, R: Wait + Clock, T: Reporter>(
         count: MAX_LIST,
     };
     match call(with, seats, &Event::Ask(all))? {
-        Reply::Recordings(recordings) => Ok(recordings),
+        Reply::Recordings(recordings) => {
+            with.shared.note_recordings(recordings.len());
+            Ok(recordings)
+        }
         _ => Ok(Items::new(with.alloc)),
     }
 }
@@ -340,7 +420,7 @@ fn report_before<D: Disk, A: Naming, R: Wait, T: Reporter>(
             end: stand.position,
         }
     };
-    with.shared.report_resume(news);
+    with.shared.report_resume(with.rt, news);
 }
 
 /// Why a publication does not go on where its last recording ends.
@@ -410,9 +490,43 @@ fn noted_call<D: Disk, A: Naming, R: Wait, T: Reporter>(
     ensures { MakesCall D.life A.opening event.now seats.old result seats.new }
 {
     let _turn = with.shared.turn.lock(with.rt);
+    call_in_turn(with, seats, event)
+}
+
+/// The same within a turn.
+fn call_in_turn<D: Disk, A: Naming, R: Wait, T: Reporter>(
+    with: &Recording<'_, D, A, R, T>,
+    seats: &mut Seats<A>,
+    event: &Event,
+) -> (Result<Reply, Refusal>, Option<Standing>)
+    ensures { MakesCall D.life A.opening event.now seats.old result seats.new }
+{
     let (outcome, standing) = seats.call(with.rt, with.alloc, with.archive, event);
     with.shared.note(with.rt, event, &outcome);
     (outcome, standing)
+}
+
+/// Stops a recording that the server writes, and purges it in the same turn if the server began it and nothing was recorded by it.
+/// Whether it is purged, and where the archive stands.
+fn stop_own<D: Disk, A: Naming, R: Wait + Clock, T: Reporter>(
+    with: &Recording<'_, D, A, R, T>,
+    seats: &mut Seats<A>,
+    own: &OwnRecording,
+) -> (bool, Option<Standing>) {
+    let recording = own.recording;
+    let timestamp = milliseconds(with.rt);
+    let stop = Event::Ask(Request::Stop {
+        recording,
+        timestamp,
+    });
+    let _turn = with.shared.turn.lock(with.rt);
+    let (outcome, standing) = call_in_turn(with, seats, &stop);
+    if !is_left_empty(own, &outcome) {
+        return (false, standing);
+    }
+    let purge = Event::Ask(Request::PurgeRecording { recording });
+    let (outcome, standing) = call_in_turn(with, seats, &purge);
+    (outcome.is_ok(), standing)
 }
 
 /// The channel of what comes to an address.

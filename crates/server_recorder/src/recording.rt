@@ -3,7 +3,9 @@
 use crate::checkpoints::{keep_short, retry_when_full, wait_at_most};
 use crate::flushing::{Flusher, Flushing, MOST_FLUSHED};
 use crate::grouping::settle_due;
-use crate::own_recordings::OwnRecordings;
+use crate::own_recordings::{
+    OwnRecordings, count_recordings, report_standing_holes, wait_to_count,
+};
 use crate::seats::Seats;
 use crate::settling::{Settling, Written};
 use crate::stopping::note_standing;
@@ -21,7 +23,7 @@ use std::thread::{self, Threads};
 use stream_pairs::{MAX_IMAGES, Seat};
 
 /// Syncs of the disk in a settling.
-const SYNCS: usize = 3;
+pub(crate) const SYNCS: usize = 3;
 
 /// What the thread that records works with.
 #[derive(Drop)]
@@ -40,8 +42,8 @@ pub struct Recording<'a, D: Disk, A: Naming, R, T> {
 
 /// Records the blocks that wait, batch after batch, until no more come, and the images that are recorded without being asked.
 /// A session settles once it is due: a block waits for `settle_every` milliseconds at most. All sessions settle at the end.
-/// Then nobody waits for a settling any more. Sessions that are due together settle together. Where syncs are slow their segment
-/// files are flushed first, by threads that end with this one: as many as the flusher wants, 8 at most, as far as there are any.
+/// Then nobody waits for a settling any more. Sessions that are due together settle together. Where syncs are slow the segment files
+/// of those that are due, of one too, are flushed first, by threads that end with this one: as many as the flusher wants, 8 at most, as far as there are any.
 ///
 /// A checkpoint is made after a settling or a call of the server's own which leaves it due, and tried each second while the history
 /// is full. Where the archive stands is noted after each settling, and after each call for a recording that nobody asked for, by what
@@ -73,7 +75,7 @@ pub fn record_all<
     });
 }
 
-/// Records batch after batch until no more come.
+/// Reports the holes that stand between recordings, and records batch after batch until no more come.
 fn record_batches<D: Disk, A: Naming, R: Wait + Clock, T: Reporter>(
     with: &Recording<'_, D, A, R, T>,
     seats: &mut Seats<A>,
@@ -86,12 +88,17 @@ fn record_batches<D: Disk, A: Naming, R: Wait + Clock, T: Reporter>(
     let mut settling = Settling::new(settle_every);
     let mut run = Run::new(with.alloc);
     let mut tried = None;
+    let mut counted = None;
+    report_standing_holes(with, seats);
     for _ in with.rt.forever() {
         let taken = take_batch(with, &watch, &mut settling, batch);
         write_batch(with, seats, &mut settling, batch, &mut run);
         settle_due(with, seats, &mut settling, &taken, flushing);
         settle_leaving(with, seats, &mut settling, &taken);
         own.follow(with, seats, &taken, watch.read(with.rt));
+        if with.shared.meter.is_on() {
+            count_recordings(with, seats, watch.read(with.rt), &mut counted);
+        }
         retry_when_full(with, seats, &watch, &mut tried);
         with.shared.queue.answer(with.rt);
         if taken.is_over {
@@ -113,6 +120,7 @@ fn take_batch<D: Disk, A: Naming, R: Wait + Clock, T: Reporter>(
     }
     settling.set_time(watch.read(with.rt));
     let wait = wait_at_most(with.shared, settling.next_due());
+    let wait = wait_to_count(with.shared, wait);
     let taken = with.shared.queue.take(with.rt, batch, wait);
     settling.set_time(watch.read(with.rt));
     taken
@@ -156,6 +164,17 @@ pub(crate) fn settle<D: Disk, A: Naming, R: Wait + Clock, T: Reporter>(
     settling: &mut Settling,
     seat: Seat,
 ) -> bool {
+    settle_alone(with, seats, settling, seat, SYNCS)
+}
+
+/// The same for a settling that waits for so many syncs. 0 if the session's segment files were flushed before.
+pub(crate) fn settle_alone<D: Disk, A: Naming, R: Wait + Clock, T: Reporter>(
+    with: &Recording<'_, D, A, R, T>,
+    seats: &mut Seats<A>,
+    settling: &mut Settling,
+    seat: Seat,
+    syncs: usize,
+) -> bool {
     let Some(written) = settling.take(seat) else {
         return true;
     };
@@ -164,7 +183,7 @@ pub(crate) fn settle<D: Disk, A: Naming, R: Wait + Clock, T: Reporter>(
     let (answer, standing) = seats.settle(with.rt, with.alloc, with.archive, seat);
     match answer {
         Ok(position) => {
-            note_time(with, settling, &watch, SYNCS);
+            note_time(with, settling, &watch, syncs);
             note_settled(with, &written, position);
         }
         Err(cause) => with.shared.refused(with.rt, written.session, cause),
@@ -182,6 +201,9 @@ pub(crate) fn note_settled<D: Disk, A: Naming, R: Wait + Clock, T: Reporter>(
     position: i64,
 ) {
     with.shared.settled(with.rt, written.session, position);
+    if with.shared.takes_hold() {
+        with.shared.look_round(with.socket);
+    }
     if let Some(counts) = with.shared.counts.of(written.image) {
         counts.recorded.add(written.bytes);
     }
@@ -197,7 +219,7 @@ pub(crate) fn note_time<D: Disk, A: Naming, R: Wait + Clock, T: Reporter>(
     if let Some(micros) = watch.micros(with.rt) {
         settling.note_syncs(micros, syncs);
         if with.shared.meter.is_on() {
-            with.shared.meter.settled(micros);
+            with.shared.meter.settled(with.rt, micros);
         }
     }
 }

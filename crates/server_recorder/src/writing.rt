@@ -11,9 +11,8 @@ use archive_lock::Naming;
 use archive_model::Reply;
 use control_core::Event;
 use disk_core::Disk;
-use frame_core::limits::MAX_WAITING_BLOCKS;
 use frame_core::{Block, Refusal};
-use server_state::{FedBlock, FedSession, Reporter};
+use server_state::{FedBlock, FedSession, MAX_QUEUED, Reporter};
 use std::alloc::Global;
 use std::collections::VecDeque;
 use std::rt::Clock;
@@ -45,8 +44,8 @@ pub(crate) struct Run {
 impl Run {
     /// No block, with room for those of a batch if there is memory for it.
     pub(crate) fn new(alloc: Global) -> Run {
-        let events = Vec::with_capacity(alloc, MAX_WAITING_BLOCKS);
-        let planned = Vec::with_capacity(alloc, MAX_WAITING_BLOCKS);
+        let events = Vec::with_capacity(alloc, MAX_QUEUED);
+        let planned = Vec::with_capacity(alloc, MAX_QUEUED);
         match (events, planned) {
             (Ok(events), Ok(planned)) => Run { events, planned },
             _ => Run {

@@ -12,3 +12,10 @@ pub mod Stopwatch
 pub mod Checkpointing
 -- Where a publication goes on before its setup frame.
 pub mod Resuming
+-- Which replays are open, and which recording they hold.
+pub mod ReplaysOpen
+pub mod Holding
+-- Places of images, and what their senders are admitted.
+pub mod Places
+-- Holes of publications.
+pub mod Holes

@@ -42,13 +42,13 @@ extend_point f = record {
 abbrev pub seat_of_opening : Bool → ℤ → PairsState → Option ℕ
 seat_of_opening gives_back session s = if gives_back then seat_for session s else Some (unsigned_abs session)
 
-abbrev pub opened_at : Option ℕ → ℤ → ℤ → StreamPoint → PairsState → PairsState
-opened_at None session recording point s = s
-opened_at (Some n) session recording point s = after_opened n session recording point s
+abbrev pub session_opened_at : Option ℕ → ℤ → ℤ → StreamPoint → PairsState → PairsState
+session_opened_at None session recording point s = s
+session_opened_at (Some n) session recording point s = after_opened n session recording point s
 
 abbrev pub after_opening : Bool → ℤ → ℤ → StreamPoint → PairsState → PairsState
 after_opening gives_back session recording point s =
-    if int_lt session (pos 0) then s else opened_at (seat_of_opening gives_back session s) session recording point s
+    if int_lt session (pos 0) then s else session_opened_at (seat_of_opening gives_back session s) session recording point s
 
 -- the session at a seat is recorded up to a position
 abbrev pub settled_at : Option ℕ → ℤ → PairsState → PairsState

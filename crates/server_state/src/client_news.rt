@@ -1,5 +1,6 @@
 //! What a server reports of its clients.
 
+use crate::known_replay::KnownReplay;
 use crate::refusal_text::RefusalText;
 use frame_core::Refusal;
 use start_faults::StartWord;
@@ -12,6 +13,13 @@ pub enum ClientNews<'a> {
     LeftReplays(&'a [i64]),
     /// Its start is BadParameter, as this word is wrong.
     WrongWord(StartWord),
+    /// Its line would take frames from a recording, and open replays hold them.
+    HeldByReplays {
+        /// The recording's id.
+        recording: i64,
+        /// The replays.
+        replays: &'a [KnownReplay],
+    },
     /// It follows a recording, and no frame can be sent any more from this position on.
     FollowingFailed {
         /// The recording's id.
@@ -35,6 +43,9 @@ impl fmt::Display for ClientNews<'_> {
         match self {
             ClientNews::LeftReplays(replays) => write_replays(f, replays),
             ClientNews::WrongWord(word) => write!(f, "{word}"),
+            ClientNews::HeldByReplays { recording, replays } => {
+                write_holders(f, *recording, replays)
+            }
             ClientNews::FollowingFailed {
                 recording,
                 position,
@@ -54,6 +65,24 @@ fn write_replays<W: fmt::Write>(f: &mut fmt::Formatter<W>, replays: &[i64]) -> f
     f.write_str("a connection ended and left replays open:")?;
     for replay in replays {
         write!(f, " {replay}")?;
+    }
+    Ok(())
+}
+
+fn write_holders<W: fmt::Write>(
+    f: &mut fmt::Formatter<W>,
+    recording: i64,
+    replays: &[KnownReplay],
+) -> fmt::Result {
+    write!(
+        f,
+        "recording {recording} is held by {} open replays",
+        replays.len()
+    )?;
+    let mut before = ": ";
+    for replay in replays {
+        write!(f, "{before}{replay}")?;
+        before = ", ";
     }
     Ok(())
 }

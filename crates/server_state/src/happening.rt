@@ -5,6 +5,7 @@ use crate::client_news::ClientNews;
 use crate::counted::Counted;
 use crate::gap_news::GapNews;
 use crate::image_news::ImageNews;
+use crate::place_news::PlaceNews;
 use crate::resume_news::ResumeNews;
 use crate::session_news::SessionNews;
 use std::fmt;
@@ -33,6 +34,8 @@ pub enum Happening<'a> {
     Gap(GapNews),
     /// Something of a publication that came back.
     Resume(ResumeNews),
+    /// Something of a place, or of whose frames an image takes.
+    Place(PlaceNews),
     /// Something of a recorder session that images feed, or of the seats of such sessions.
     Session(SessionNews),
     /// Something of a client.
@@ -49,6 +52,7 @@ impl Happening<'_> {
             Happening::Image(news) => news.is_fault(),
             Happening::Gap(news) => news.is_fault(),
             Happening::Resume(news) => news.is_fault(),
+            Happening::Place(news) => news.is_fault(),
             Happening::Session(news) => news.is_fault(),
             Happening::Client(news) => news.is_fault(),
             _ => false,
@@ -77,6 +81,7 @@ impl fmt::Display for Happening<'_> {
             Happening::Image(news) => write!(f, "{news}"),
             Happening::Gap(news) => write!(f, "{news}"),
             Happening::Resume(news) => write!(f, "{news}"),
+            Happening::Place(news) => write!(f, "{news}"),
             Happening::Session(news) => write!(f, "{news}"),
             Happening::Client(news) => write!(f, "{news}"),
             Happening::Ended(counted) => write!(f, "ended: {counted}"),

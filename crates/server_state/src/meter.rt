@@ -2,12 +2,13 @@
 
 ghost use Rattle.std.specs.Prelude.{◌≡◌};
 
+use crate::client_places::ClientPlaces;
 use crate::counts::Count;
 use archive_model::Reply;
-use control_core::Event;
 use frame_core::Refusal;
-use metrics_text::{ArchiveMeasures, ClientMeasures, RecorderMeasures};
-use std::sync::atomic::{AtomicBool, AtomicU64, Ordering};
+use metrics_text::{ArchiveMeasures, ClientMeasures, RecorderMeasures, SettleTimes};
+use std::sync::atomic::{AtomicBool, Ordering};
+use std::sync::{Mutex, Wait};
 
 /// What threads count for the metrics, if there are metrics.
 #[derive(Drop)]
@@ -15,12 +16,10 @@ pub struct Meter {
     is_on: bool,
     /// Frames that were written.
     pub frames: Count,
-    settles: Count,
-    settle_micros: Count,
-    longest_micros: AtomicU64,
+    settles: Mutex<SettleTimes>,
+    /// How many clients are served.
+    pub clients: ClientPlaces,
     polls: Count,
-    replays_opened: Count,
-    replays_closed: Count,
     entries: Count,
     limit: Count,
     /// Checkpoints that were made.
@@ -39,12 +38,9 @@ impl Meter {
         Meter {
             is_on,
             frames: Count::new(),
-            settles: Count::new(),
-            settle_micros: Count::new(),
-            longest_micros: AtomicU64::new(0),
+            settles: Mutex::new(SettleTimes::new()),
+            clients: ClientPlaces::new(),
             polls: Count::new(),
-            replays_opened: Count::new(),
-            replays_closed: Count::new(),
             entries: Count::new(),
             limit: Count::new(),
             checkpoints: Count::new(),
@@ -83,22 +79,14 @@ impl Meter {
     }
 
     /// A settle was made, which took so many microseconds.
-    pub fn settled(&self, micros: u64) {
-        self.settles.add(1);
-        self.settle_micros.add(micros);
-        self.longest_micros.fetch_max(micros, Ordering::SeqCst);
+    pub fn settled<R: Wait>(&self, rt: &R, micros: u64) {
+        self.settles.lock(rt).note(micros);
     }
 
     /// A client's call was answered so.
-    pub fn note_call(&self, event: &Event, outcome: &Result<Reply, Refusal>) {
-        if !self.is_on {
-            return;
-        }
-        match (event, outcome) {
-            (_, Ok(Reply::Polled { .. })) => self.polls.add(1),
-            (_, Ok(Reply::ReplayOpened { .. })) => self.replays_opened.add(1),
-            (Event::ReplayClose { .. }, Ok(_)) => self.replays_closed.add(1),
-            _ => {}
+    pub fn note_call(&self, outcome: &Result<Reply, Refusal>) {
+        if self.is_on && matches!(outcome, Ok(Reply::Polled { .. })) {
+            self.polls.add(1);
         }
     }
 
@@ -118,23 +106,22 @@ impl Meter {
     }
 
     /// What is measured of the thread that records, which settled so many bytes.
-    pub(crate) fn recorder(&self, bytes: u64) -> RecorderMeasures {
+    pub(crate) fn recorder<R: Wait>(&self, rt: &R, bytes: u64) -> RecorderMeasures {
         RecorderMeasures {
             bytes,
             frames: self.frames.get(),
-            settles: self.settles.get(),
-            settle_micros: self.settle_micros.get(),
-            longest_micros: self.longest_micros.load(Ordering::SeqCst),
+            settles: *self.settles.lock(rt),
         }
     }
 
-    /// What is measured of clients, of whom so many connections were taken.
-    pub(crate) fn clients(&self, connections: u64) -> ClientMeasures {
-        let closed = self.replays_closed.get();
+    /// What is measured of clients, of whom so many connections were taken, and by whom so many replays are open.
+    pub(crate) fn clients(&self, connections: u64, replays: u64) -> ClientMeasures {
         ClientMeasures {
             connections,
+            clients: self.clients.served(),
+            places: self.clients.places(),
             polls: self.polls.get(),
-            replays: self.replays_opened.get().saturating_sub(closed),
+            replays,
         }
     }
 }

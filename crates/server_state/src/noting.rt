@@ -2,7 +2,7 @@
 
 ghost use Rattle.std.specs.Prelude.{◌≡◌};
 ghost use Rattle.std.specs.List.{zip};
-ghost use Rattle.server_state.specs.Noting.{after_noted, after_opening, after_settling, after_settling_to, after_settlings, after_stopping, extend_point, opened_at, seat_of_opening, settled_at, start_point};
+ghost use Rattle.server_state.specs.Noting.{after_noted, after_opening, after_settling, after_settling_to, after_settlings, after_stopping, extend_point, session_opened_at, seat_of_opening, settled_at, start_point};
 ghost use Rattle.stream_pairs.specs.Pairs.{seat_of};
 
 use archive_model::{ExtendFields, Reply, StartFields};
@@ -84,7 +84,7 @@ fn note_seat(
     recording: i64,
     point: StreamPoint,
 )
-    ensures { pairs.new ≡ opened_at seat session recording point pairs.old }
+    ensures { pairs.new ≡ session_opened_at seat session recording point pairs.old }
 {
     if let Some(seat) = seat {
         pairs.opened(seat, session, recording, point);

@@ -1,6 +1,7 @@
 //! Where images come from, and what was found of them in the archive. docs/ARCHITECTURE.md, "Where an image joins".
 
 ghost use Rattle.std.specs.Prelude.{◌≡◌, None, Some, replicate, slice_set};
+ghost use Rattle.server_state.specs.Places.{after_filling};
 ghost use Rattle.server_state.specs.Resuming.{after_finding, after_loss, origin_of, origin_with};
 
 use crate::pairing::ImageKey;
@@ -17,6 +18,8 @@ pub enum Found {
     Recorded,
     /// A recording that stands before its setup frame, where it may go on.
     Stands(Stand),
+    /// Nothing: a recording begins with its first block.
+    Nothing,
     /// Nothing yet: the call was refused.
     Refused,
 }
@@ -34,6 +37,8 @@ pub struct Origin {
     pub found: Found,
     /// Whether a block of it was refused, and so it was lost.
     pub is_refused: bool,
+    /// Whether it has had a block while it fed no session.
+    pub has_block: bool,
 }
 
 /// Where the images come from, by their places.
@@ -77,6 +82,21 @@ impl Origins {
     {
         if let Some(origin) = self.of(key) {
             self.put(key.place, Origin { found, ..origin });
+        }
+    }
+
+    /// An image has its first block. Nothing changes if the image is not at its place any more.
+    pub fn fill(&mut self, key: &ImageKey)
+        ensures { self.new ≡ record self.old { origins = after_filling key.now self.old.origins } }
+    {
+        if let Some(origin) = self.of(key) {
+            self.put(
+                key.place,
+                Origin {
+                    has_block: true,
+                    ..origin
+                },
+            );
         }
     }
 

@@ -3,6 +3,7 @@
 ghost use Rattle.std.specs.Prelude.{◌≡◌, ◌<◌, None, replicate};
 ghost use Rattle.std.specs.List.{position};
 ghost use Rattle.stream_pairs.specs.Pairs.{feeds, seat_of};
+ghost use Rattle.server_state.specs.Places.{open_position, settled_of};
 ghost use Rattle.server_state.specs.Resuming.{GoesOnAt, seat_stand};
 ghost use Rattle.server_state.specs.Noting.{ReportsMisfit, ReportsNext, after_noted, after_refusing, fed_key, fed_session, has_key, image_key, is_over, is_reported, is_unfed, key_at, lost_key, misfit_at, misfit_of, misfit_with, unreported_misfit, waiting_image, waiting_with, waits, seated_session, fed_at, unreported_image};
 
@@ -251,6 +252,16 @@ impl Pairing {
         }
     }
 
+    /// Up to where the session is settled that the image at a place feeds, if it is open.
+    pub fn settled_of(&self, place: Place) -> Option<i64>
+        ensures { result ≡ settled_of place self.now.pairs }
+    {
+        match self.pairs.session_of_image(place) {
+            Some(seat) => open_position(self.pairs.slot(seat)),
+            None => None,
+        }
+    }
+
     /// Where the session of the least seat stands that is open, has no image, and stands where a publication may go on which
     /// joined at a point.
     pub fn stand_for(&self, join: &StreamPoint) -> Option<Stand>
@@ -296,6 +307,16 @@ fn image_key(place: Place, image: Option<JoinedImage>) -> Option<ImageKey>
             number: image.number,
         }),
         None => None,
+    }
+}
+
+/// Up to where a session is settled, if it is open.
+fn open_position(slot: Option<SessionSlot>) -> Option<i64>
+    ensures { result ≡ open_position slot }
+{
+    match slot {
+        Some(slot) if slot.is_open => Some(slot.point.position),
+        _ => None,
     }
 }
 

@@ -9,14 +9,16 @@ ghost use Rattle.server_state.specs.Handing.{is_idle, is_over, may_put};
 use crate::asking::Asks;
 use crate::pairing::ImageKey;
 use frame_core::Block;
-use frame_core::limits::MAX_WAITING_BLOCKS;
 use std::alloc::{AllocError, Global};
 use std::collections::VecDeque;
 use std::mem;
 use std::rt::Clock;
 use std::sync::{Condvar, CondvarTimeouts, Mutex, Wait};
 use std::time::Duration;
-use stream_pairs::{FED_SESSIONS, Place, Seat};
+use stream_pairs::{FED_SESSIONS, MAX_IMAGES, Place, Seat};
+
+/// Blocks that wait at most on their way from the thread that receives to the one that records: one of each image.
+pub const MAX_QUEUED: usize = MAX_IMAGES;
 
 /// A block, and the image that it is of.
 #[derive(Drop)]
@@ -40,7 +42,7 @@ pub struct Taken {
     pub is_over: bool,
 }
 
-/// Blocks that wait, at most 16. While none is awaited a block stays in its image and grows there, unless it is full.
+/// Blocks that wait, at most 64. While none is awaited a block stays in its image and grows there, unless it is full.
 #[derive(Drop)]
 pub struct Queue {
     state: Mutex<Waiting>,
@@ -66,7 +68,7 @@ struct Waiting {
 }
 
 impl Waiting {
-    /// No block waits, and none is awaited. Costs memory for 16.
+    /// No block waits, and none is awaited. Costs memory for 64.
     fn new(alloc: Global) -> Result<Waiting, AllocError>
         ensures blocks { IfOk result (λ made. made.blocks.items ≡ []) }
         ensures nothing_asked { IfOk result (λ made. made ≡ record {
@@ -92,7 +94,7 @@ impl Waiting {
         }) }
     {
         Ok(Waiting {
-            blocks: VecDeque::with_capacity(alloc, MAX_WAITING_BLOCKS)?,
+            blocks: VecDeque::with_capacity(alloc, MAX_QUEUED)?,
             is_awaited: false,
             is_kept_back: false,
             is_ended: false,
@@ -102,13 +104,13 @@ impl Waiting {
         })
     }
 
-    /// Whether a block may be put: fewer than 16 wait, and blocks are awaited, or it is full. Where not, it is kept back.
+    /// Whether a block may be put: fewer than 64 wait, and blocks are awaited, or it is full. Where not, it is kept back.
     fn admits(&mut self, is_full: bool) -> bool
         ensures admitted { result ≡ may_put self.old.is_awaited (length self.old.blocks.items) is_full }
         ensures kept_back { self.new ≡ record self.old
             { is_kept_back = self.old.is_kept_back || not result } }
     {
-        let may_put = self.blocks.len() < MAX_WAITING_BLOCKS && (is_full || self.is_awaited);
+        let may_put = self.blocks.len() < MAX_QUEUED && (is_full || self.is_awaited);
         if !may_put {
             self.is_kept_back = true;
         }
@@ -196,7 +198,7 @@ impl Waiting {
 }
 
 impl Queue {
-    /// No block waits. Costs memory for 16.
+    /// No block waits. Costs memory for 64.
     pub fn new(alloc: Global) -> Result<Queue, AllocError> {
         Ok(Queue {
             state: Mutex::new(Waiting::new(alloc)?),
@@ -206,22 +208,25 @@ impl Queue {
         })
     }
 
-    /// Whether a block may be put: fewer than 16 wait, and blocks are awaited, or it is full. Where not, it is kept back.
+    /// Whether a block may be put: fewer than 64 wait, and blocks are awaited, or it is full. Where not, it is kept back.
     pub fn has_room<R: Wait>(&self, rt: &R, is_full: bool) -> bool {
         self.state.lock(rt).admits(is_full)
     }
 
-    /// Puts a block behind the others. It comes back where there is no memory for it.
+    /// Puts a block behind the others. It comes back where there is no memory for it. The thread that records is not woken.
     pub fn put<R: Wait>(&self, rt: &R, fed: FedBlock) -> Result<(), FedBlock> {
-        let outcome = self.state.lock(rt).put(fed);
-        self.filled.notify_one();
-        outcome
+        self.state.lock(rt).put(fed)
     }
 
-    /// Waits until fewer than 16 blocks wait.
+    /// Wakes the thread that records, since blocks were put.
+    pub fn wake(&self) {
+        self.filled.notify_one();
+    }
+
+    /// Waits until fewer than 64 blocks wait.
     pub fn wait_for_room<R: Wait>(&self, rt: &R) {
         let state = self.emptied.wait_while(rt, self.state.lock(rt), |state| {
-            state.blocks.len() >= MAX_WAITING_BLOCKS
+            state.blocks.len() >= MAX_QUEUED
         });
         let _ = state.is_ended;
     }

@@ -11,6 +11,11 @@ pub trait Reporter {
 
     /// Gets what is measured of the server, from the thread that receives. No lock is held meanwhile.
     fn measured(&self, _measures: &Measures) {}
+
+    /// Milliseconds between two times that the server is measured.
+    fn measures_every(&self) -> u64 {
+        1_000
+    }
 }
 
 /// Nothing is reported.

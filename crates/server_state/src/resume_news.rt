@@ -65,6 +65,13 @@ pub enum ResumeNews {
         /// Where it ends.
         end: i64,
     },
+    /// Holes stand between recordings of one publication when the server begins.
+    HolesStand {
+        /// How many.
+        count: u64,
+        /// Bytes of them.
+        bytes: u64,
+    },
 }
 
 impl ResumeNews {
@@ -75,6 +82,7 @@ impl ResumeNews {
             ResumeNews::Filled { .. } => false,
             ResumeNews::Hole { .. } => true,
             ResumeNews::WentBack { .. } => true,
+            ResumeNews::HolesStand { .. } => false,
         }
     }
 }
@@ -132,6 +140,15 @@ impl fmt::Display for ResumeNews {
                 write_publication(f, publication)?;
                 write!(f, " went back: its setup frame is at {at}, ")?;
                 write!(f, "and recording {recording} ends at {end}")
+            }
+            ResumeNews::HolesStand { count, bytes } => {
+                let which = if *count == 1 {
+                    "hole stands"
+                } else {
+                    "holes stand"
+                };
+                write!(f, "{count} {which} between recordings of one publication: ")?;
+                write!(f, "{bytes} bytes")
             }
         }
     }

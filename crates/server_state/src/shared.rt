@@ -16,7 +16,11 @@ use crate::naming::named_word;
 use crate::noting::settle;
 use crate::origins::{Found, Origin, Origins};
 use crate::pairing::{FedSession, ImageKey, Misfit, Pairing};
+use crate::place_counts::PlaceCounts;
+use crate::place_news::PlaceNews;
+use crate::publication_holes::SeenHoles;
 use crate::queue::Queue;
+use crate::replays_open::OpenReplays;
 use crate::reporter::Reporter;
 use crate::resume_news::ResumeNews;
 use crate::resuming::{Resumes, Stand, is_resumable};
@@ -24,7 +28,7 @@ use crate::session_news::SessionNews;
 use crate::settle_notice::SettleNotice;
 use archive_model::Reply;
 use control_core::Event;
-use frame_core::Refusal;
+use frame_core::{Publication, Refusal};
 use metrics_text::{DatagramMeasures, ImageMeasures, Measures};
 use std::alloc::{AllocError, Global};
 use std::net::{SocketAddr, UdpSocket};
@@ -46,6 +50,8 @@ pub struct WaitingImage {
     pub resumes: Resumes,
     /// What the recording thread found for it.
     pub found: Found,
+    /// Whether it has a block.
+    pub has_block: bool,
 }
 
 /// An image that goes on where a recording stands, before its publication's setup frame.
@@ -93,12 +99,19 @@ pub struct Shared<T> {
     pub settles: SettleNotice,
     /// What is counted.
     pub counts: Counts,
+    /// What is counted of datagrams that are not taken, and of publications without a place.
+    pub places: PlaceCounts,
+    /// Holes that were seen, by publication.
+    holes: Mutex<SeenHoles>,
     /// What is counted for the metrics alone.
     pub meter: Meter,
     /// When checkpoints are made.
     pub checkpointing: Checkpointing,
+    /// Which replays are open.
+    pub replays: OpenReplays,
     ends: AtomicBool,
     looks_round: AtomicBool,
+    holds: AtomicBool,
     /// Calls that make entries are made and noted one after another.
     pub turn: Mutex<()>,
     has_faulted: AtomicBool,
@@ -112,7 +125,7 @@ pub struct Shared<T> {
 }
 
 impl<T: Reporter> Shared<T> {
-    /// Nothing came yet. Costs memory for tables and for 16 blocks.
+    /// Nothing came yet. Costs memory for tables and for 64 blocks.
     pub fn new(alloc: Global, options: SharedOptions, reporter: T) -> Result<Shared<T>, AllocError>
     where
         T: Drop,
@@ -126,10 +139,14 @@ impl<T: Reporter> Shared<T> {
             queue: Queue::new(alloc)?,
             settles: SettleNotice::new(),
             counts: Counts::new(alloc)?,
+            places: PlaceCounts::new(),
+            holes: Mutex::new(SeenHoles::new()),
             meter: Meter::new(options.is_measured),
             checkpointing: Checkpointing::new(options.makes_checkpoints),
+            replays: OpenReplays::new(alloc),
             ends: AtomicBool::new(false),
             looks_round: AtomicBool::new(false),
+            holds: AtomicBool::new(false),
             turn: Mutex::new(()),
             has_faulted: AtomicBool::new(false),
             history: AtomicU8::new(0),
@@ -146,19 +163,37 @@ impl<T: Reporter> Shared<T> {
     }
 
     /// Reports something of a publication that came back, and counts it.
-    pub fn report_resume(&self, news: ResumeNews) {
+    pub fn report_resume<R: Wait>(&self, rt: &R, news: ResumeNews) {
         match &news {
             ResumeNews::Resumes { .. } => self.counts.resumed.add(1),
             ResumeNews::Filled { bytes, .. } => self.counts.resumed_bytes.add(*bytes),
-            ResumeNews::Hole { from, to, .. } => {
+            ResumeNews::Hole {
+                publication,
+                from,
+                to,
+                ..
+            } => {
+                let bytes = to.saturating_sub(*from).unsigned_abs();
                 self.counts.holes.add(1);
-                self.counts
-                    .hole_bytes
-                    .add(to.saturating_sub(*from).unsigned_abs());
+                self.counts.hole_bytes.add(bytes);
+                self.holes.lock(rt).add(*publication, bytes);
             }
             ResumeNews::WentBack { .. } => {}
+            ResumeNews::HolesStand { .. } => {}
         }
         self.report(&Happening::Resume(news));
+    }
+
+    /// Bytes of holes of a publication that were seen since the server began. The last 64 publications with a hole are kept.
+    pub fn hole_bytes<R: Wait>(&self, rt: &R, publication: &Publication) -> u64 {
+        self.holes.lock(rt).bytes_of(publication)
+    }
+
+    /// So many recordings stand, which is reported where they become many.
+    pub fn note_recordings(&self, count: usize) {
+        if self.places.note_recordings(count) {
+            self.report(&Happening::Place(PlaceNews::Recordings { count }));
+        }
     }
 
     /// Reports the end, with what was counted.
@@ -172,6 +207,11 @@ impl<T: Reporter> Shared<T> {
         if let Some(word) = named_word(event, outcome) {
             self.report(&Happening::Client(ClientNews::WrongWord(word)));
         }
+    }
+
+    /// Milliseconds between two times that the server is measured.
+    pub fn measures_every(&self) -> u64 {
+        self.reporter.measures_every()
     }
 
     /// Hands on what is measured of the server, with what the thread that receives has measured. Without memory nothing is.
@@ -198,7 +238,7 @@ impl<T: Reporter> Shared<T> {
         let counted = self.counts.all();
         Ok(Measures {
             archive: self.meter.archive(),
-            recorder: self.meter.recorder(counted.all.recorded),
+            recorder: self.meter.recorder(rt, counted.all.recorded),
             datagrams: DatagramMeasures {
                 received: counted.datagrams,
                 dropped: received.dropped,
@@ -209,8 +249,12 @@ impl<T: Reporter> Shared<T> {
                 images: counted.images,
             },
             resumes: self.counts.resumes(),
-            clients: self.meter.clients(counted.connections),
+            places: self.places.measures(),
+            clients: self
+                .meter
+                .clients(counted.connections, self.replays.count(rt)),
             recordings,
+            replays: self.replays.measures(rt, alloc)?,
             images,
         })
     }
@@ -223,6 +267,13 @@ impl<T: Reporter> Shared<T> {
     /// Whether the server ends.
     pub fn has_ended(&self) -> bool {
         self.ends.load(Ordering::SeqCst)
+    }
+
+    /// Whether places of images and seats of sessions are given back.
+    pub fn gives_back(&self) -> bool
+        ensures { result ≡ self.now.gives_back }
+    {
+        self.gives_back
     }
 
     /// Whether the server ends once its archive can record nothing any more.
@@ -248,10 +299,21 @@ impl<T: Reporter> Shared<T> {
         wake(socket);
     }
 
-    /// The thread that receives is to look for blocks of all images; it is woken.
+    /// The thread that receives is to look for blocks of all images; it is woken, unless it is on its way to that.
     pub fn look_round(&self, socket: &UdpSocket) {
-        self.looks_round.store(true, Ordering::SeqCst);
-        wake(socket);
+        if !self.looks_round.swap(true, Ordering::SeqCst) {
+            wake(socket);
+        }
+    }
+
+    /// A sender is held back by what is not settled: the thread that receives is to look round after a settle.
+    pub fn hold(&self) {
+        self.holds.store(true, Ordering::SeqCst);
+    }
+
+    /// Whether one is; asked again none is, until there is a next one.
+    pub fn takes_hold(&self) -> bool {
+        self.holds.swap(false, Ordering::SeqCst)
     }
 
     /// Whether it is to look for blocks of all images; asked again it is not, until there is a next round.
@@ -355,6 +417,7 @@ impl<T: Reporter> Shared<T> {
             resumes,
             found: Found::Unasked,
             is_refused: false,
+            has_block: false,
         };
         self.origins.lock(rt).put(place, origin);
         let count = self.pairing.lock(rt).pairs.image_count();
@@ -397,6 +460,7 @@ impl<T: Reporter> Shared<T> {
             sender: origin.sender,
             resumes: origin.resumes,
             found: origin.found,
+            has_block: origin.has_block,
         })
     }
 
@@ -412,6 +476,35 @@ impl<T: Reporter> Shared<T> {
             _ => self.pairing.lock(rt).stand_for(&image.point)?,
         };
         Some(Resumption { image, stand })
+    }
+
+    /// The image at a place has its first block. Whether it waits for a session.
+    pub fn filled<R: Wait>(&self, rt: &R, place: Place) -> bool {
+        match self.waiting(rt, place) {
+            Some(image) => {
+                self.origins.lock(rt).fill(&image.key);
+                true
+            }
+            None => false,
+        }
+    }
+
+    /// Whether a recording begins with the first block of the image at a place.
+    pub fn begins<R: Wait>(&self, rt: &R, place: Place) -> bool {
+        match self.waiting(rt, place) {
+            Some(image) => image.found == Found::Nothing,
+            None => false,
+        }
+    }
+
+    /// Up to where the session is settled, in bytes of the stream, that the image at a place feeds, if it is open.
+    pub fn settled_of<R: Wait>(&self, rt: &R, place: Place) -> Option<i64> {
+        self.pairing.lock(rt).settled_of(place)
+    }
+
+    /// Whether an open session is of a publication.
+    pub fn has_open_session<R: Wait>(&self, rt: &R, publication: &Publication) -> bool {
+        self.pairing.lock(rt).pairs.has_open_session(publication)
     }
 
     /// The recording thread has found this for an image, if it is at its place still.
@@ -496,11 +589,6 @@ impl<T: Reporter> Shared<T> {
     /// The seat of the session that the image at a place feeds.
     pub fn seat_of<R: Wait>(&self, rt: &R, place: Place) -> Option<Seat> {
         self.pairing.lock(rt).pairs.session_of_image(place)
-    }
-
-    /// Whether the image at a place feeds a session that is open.
-    pub fn is_recorded<R: Wait>(&self, rt: &R, place: Place) -> bool {
-        self.pairing.lock(rt).pairs.is_recorded(place)
     }
 
     /// A line for each image, and a line with how many there are.

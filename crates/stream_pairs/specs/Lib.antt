@@ -2,3 +2,5 @@
 pub mod Pairs
 -- What follows over all runs.
 pub mod Laws
+-- Which image gives its place to another publication.
+pub mod Places

@@ -4,6 +4,7 @@ ghost use Rattle.std.specs.Prelude.{◌≡◌, ◌<◌, ◌≤◌, ◌-◌, ◌^
 ghost use Rattle.std.specs.List.{position};
 ghost use Rattle.frame_core.specs.declared.refusal.Refusal.TheVariants.{NoMemory};
 ghost use Rattle.stream_pairs.specs.Pairs.{after_joined, after_left, after_opened, after_refused, after_released, after_settled, after_stopped, ended, fed_by, feeds, has_own_seat, has_session, image_at, image_count, image_in, image_with, is_free, is_image_of, is_recorded, is_recorded_by, is_vacant, joined, joined_index, kept_image, may_join, no_pairs, pair_all, pair_one, place_for_next, put_image, released_at, seat_for, seat_of, slot_of, takes, unfed_at, vacated, with_lost_image, with_new_session, with_slot, writes};
+ghost use Rattle.stream_pairs.specs.Places.{has_open_session, is_open_of};
 
 use crate::points::StreamPoint;
 use frame_core::{Publication, Refusal};
@@ -295,6 +296,13 @@ impl Pairs {
         self.slots.iter().any(|slot| is_recorded_by(slot, place))
     }
 
+    /// Whether an open session is of a publication. Costs a step for each session. Does not allocate.
+    pub fn has_open_session(&self, publication: &Publication) -> bool
+        ensures { result ≡ has_open_session publication.now self.now }
+    {
+        self.slots.iter().any(|slot| is_open_of(slot, publication))
+    }
+
     /// The images by their places, those that were given back too. Costs a constant time.
     pub fn images(&self) -> &[JoinedImage]
         ensures { result.now ≡ self.now.images }
@@ -492,6 +500,16 @@ fn is_recorded_by(slot: &Option<SessionSlot>, place: Place) -> bool
 {
     match slot {
         Some(slot) => slot.is_open && slot.image == Some(place),
+        None => false,
+    }
+}
+
+/// Whether a session is open and of a publication.
+fn is_open_of(slot: &Option<SessionSlot>, publication: &Publication) -> bool
+    ensures { result ≡ is_open_of publication.now slot.now }
+{
+    match slot {
+        Some(slot) => slot.is_open && slot.point.is_of(publication),
         None => false,
     }
 }

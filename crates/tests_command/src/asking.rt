@@ -201,9 +201,9 @@ fn what_a_server_answers(rt: HostRuntime) {
     for (lines, until, replies, told, status) in [
         ("sweep", None, "swept 0\n", "", 0),
         (
-            "list 0 9|poll 0 2|images|merge-take|merge-take|sweep",
+            "list 0 9|poll 0 2|images|replays|merge-take|merge-take|sweep",
             None,
-            "recording 0\nend 1\nframe 0 00\nmore 64\nimage 0\nend 1\nframe 0 00\nnone\nswept 0\n",
+            "recording 0\nend 1\nframe 0 00\nmore 64\nimage 0\nend 1\nopen 0\nopen 1\nend 2\nframe 0 00\nnone\nswept 0\n",
             "",
             0,
         ),
@@ -328,10 +328,12 @@ fn nobody_answers(rt: HostRuntime) -> Result<(), Fail> {
 #[test]
 fn wrong_words_of_ask(rt: HostRuntime) -> Result<(), Fail> {
     let lines = "lines have no line feed, and with their ends at most 65536 bytes";
+    let follow = "follow is answered by bytes, and not by lines alone";
     for (port, line, until, told) in [
         (65_536, "sweep", None, ""),
         (1, "sweep\n", None, lines),
         (1, "a|\n|b", None, lines),
+        (1, "sweep|follow 0 0 -1", None, follow),
         (
             1,
             "sweep",

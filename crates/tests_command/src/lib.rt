@@ -13,4 +13,6 @@ mod operating;
 #[cfg(test)]
 mod serving;
 #[cfg(test)]
+mod when;
+#[cfg(test)]
 mod words;

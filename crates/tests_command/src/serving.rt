@@ -25,10 +25,13 @@ pub(crate) fn usual<'a>(alloc: Global) -> ServeWords<'a> {
         consumers: None,
         consumers_on: None,
         streams: Vec::new(alloc),
+        from: Vec::new(alloc),
         segment_length: None,
         is_quiet: false,
         is_strict: false,
         metrics: None,
+        times: None,
+        times_every: 1_000,
         checkpoints: false,
         no_checkpoints: false,
         name: None,
@@ -342,10 +345,13 @@ pub(crate) fn unserved<'a>(
         consumers: None,
         consumers_on: None,
         streams: Vec::new(alloc),
+        from: Vec::new(alloc),
         segment_length: None,
         is_quiet: true,
         is_strict: false,
         metrics: None,
+        times: None,
+        times_every: 1_000,
         checkpoints: false,
         no_checkpoints: false,
         name: None,
@@ -477,6 +483,59 @@ fn streams_of(alloc: Global, count: i32) -> Result<Vec<i32>, AllocError> {
         streams.push(stream)?;
     }
     Ok(streams)
+}
+
+/// Networks without `--aeron`, too many of them, and words that are no network are usage errors. Each of 16 networks is right.
+#[test]
+fn wrong_networks_of_a_server(rt: HostRuntime) -> Result<(), Fail> {
+    let wanted = "--from wants an IPv4 address, or one and a number of bits, as 10.1.0.0/16";
+    let absent = "the folder is not there";
+    let folder = format!(in rt.alloc(); "{}/archive_tool-unfrom", env::temp_dir(&rt)?.display())?;
+    let mut out = Vec::new(rt.alloc());
+    for (is_aeron, count, word, reason, status) in [
+        (false, 1, "10.1.0.0/16", "--from needs --aeron", 2),
+        (
+            true,
+            17,
+            "10.1.0.0/16",
+            "--from may be given at most 16 times",
+            2,
+        ),
+        (true, 16, "10.1.0.0/16", absent, 3),
+        (true, 1, "127.0.0.1", absent, 3),
+        (true, 1, "0.0.0.0/0", absent, 3),
+        (true, 1, "127.0.0.1/32", absent, 3),
+        (true, 1, "127.0.0.1/33", wanted, 2),
+        (true, 1, "127.0.0.1/", wanted, 2),
+        (true, 1, "127.0.0/8", wanted, 2),
+        (true, 1, "127.0.0.1/8/8", wanted, 2),
+        (true, 1, "::1", wanted, 2),
+        (true, 1, "", wanted, 2),
+    ] {
+        let mut words = unserved(rt.alloc(), folder.as_str(), "127.0.0.1", is_aeron, None);
+        for _ in 0..count {
+            words.from.push(word)?;
+        }
+        let ended = ended(&rt, rt, ToolCommand::Serve(words), NO_LINES, &mut out);
+        let streams = Streams::new(rt.alloc(), reason);
+        assert!(rt;
+            concluded(&streams, ended) == status,
+            "{word} {reason} {status}"
+        );
+        assert!(rt; streams.awaited_came.get(), "{word} {reason} {status}");
+    }
+    Ok(())
+}
+
+/// `serve` takes the networks of `--from` in their order, as they were given.
+#[test]
+fn serve_takes_networks(rt: HostRuntime) -> Result<(), Fail> {
+    let line = "archive_tool serve a --control 1 --receive 2 --from 10.1.0.0/16 --from=127.0.0.1";
+    let mut words = usual(rt.alloc());
+    words.from.push("10.1.0.0/16")?;
+    words.from.push("127.0.0.1")?;
+    assert!(rt; asks_for(rt.alloc(), line, ToolCommand::Serve(words))?);
+    Ok(())
 }
 
 /// Streams without `--aeron`, too many of them, and a bad length of their segments are usage errors too.

@@ -184,6 +184,11 @@ fn help(rt: HostRuntime) -> Result<(), Fail> {
             "Sends control lines to a server on this machine (`serve`), and prints what it answers,",
         ),
         (
+            "archive_tool when --help",
+            ErrorKind::DisplayHelp,
+            "Prints where a recording stood at a time, by a folder of times that `serve --times`",
+        ),
+        (
             "archive_tool --version",
             ErrorKind::DisplayVersion,
             "archive_tool 0.2.0 (catalogue 2, rattle-kit-",
@@ -244,6 +249,7 @@ fn a_missing_folder_or_file(rt: HostRuntime) -> Result<(), Fail> {
         ("archive_tool frames", "<file>"),
         ("archive_tool describe", "<folder>"),
         ("archive_tool export a 0", "--pcap <file>"),
+        ("archive_tool when a 0", "<time>"),
     ] {
         let text = format!(in rt.alloc(); "{missing}{word}\n")?;
         let kind = ErrorKind::MissingRequiredArgument;
@@ -403,6 +409,14 @@ fn each_command_has_its_words(rt: HostRuntime) -> Result<(), Fail> {
         (
             "archive_tool frames a/0-0.rec",
             ToolCommand::Frames { file: "a/0-0.rec" },
+        ),
+        (
+            "archive_tool when a 3 2025-11-29T08:41:36.123Z",
+            ToolCommand::When {
+                folder: "a",
+                recording: 3,
+                time: "2025-11-29T08:41:36.123Z",
+            },
         ),
         (
             "archive_tool list -- -a",

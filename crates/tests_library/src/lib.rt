@@ -55,6 +55,8 @@ mod settled;
 #[cfg(test)]
 mod sparse;
 #[cfg(test)]
+mod times;
+#[cfg(test)]
 mod vectors;
 #[cfg(test)]
 mod versions;

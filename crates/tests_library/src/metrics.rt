@@ -1,8 +1,9 @@
 //! Measures as the text that a collector reads: docs/SERVING.md, "Metrics".
 
 use metrics_text::{
-    ArchiveMeasures, ClientMeasures, DatagramMeasures, ImageMeasures, Measures, RecorderAbout,
-    RecorderMeasures, RecordingMeasures, ResumeMeasures, print_metrics,
+    ArchiveMeasures, ClientMeasures, DatagramMeasures, ImageMeasures, Measures, PlaceMeasures,
+    RecorderAbout, RecorderMeasures, RecordingMeasures, RefusedMeasures, ReplayMeasures,
+    ResumeMeasures, SettleTimes, print_metrics,
 };
 use std::alloc::{AllocError, Global};
 use std::test::*;
@@ -24,19 +25,31 @@ aeron_recorder_archive_broken{recorder=\"a-1\"} 0
 ";
 
 /// Lines that it has.
-const LINES: [&str; 12] = [
+const LINES: [&str; 24] = [
     "aeron_recorder_history_limit_entries{recorder=\"a-1\"} 1048576\n",
     "# TYPE aeron_recorder_checkpoints_total counter\naeron_recorder_checkpoints_total{recorder=\"a-1\"} 7\n# HELP aeron_recorder_checkpoints_refused_total Checkpoints that were refused.\n# TYPE aeron_recorder_checkpoints_refused_total counter\naeron_recorder_checkpoints_refused_total{recorder=\"a-1\"} 1\n",
     "# TYPE aeron_recorder_recorded_bytes_total counter\naeron_recorder_recorded_bytes_total{recorder=\"a-1\"} 18446744073709551615\n",
-    "# TYPE aeron_recorder_settle_seconds summary\naeron_recorder_settle_seconds_sum{recorder=\"a-1\"} 61.000203\naeron_recorder_settle_seconds_count{recorder=\"a-1\"} 9\n",
-    "aeron_recorder_settle_longest_seconds{recorder=\"a-1\"} 0.000001\n",
+    "# HELP aeron_recorder_settle_seconds Settles, and how long they took.\n# TYPE aeron_recorder_settle_seconds histogram\naeron_recorder_settle_seconds_bucket{recorder=\"a-1\",le=\"0.000050\"} 1\naeron_recorder_settle_seconds_bucket{recorder=\"a-1\",le=\"0.000100\"} 2\naeron_recorder_settle_seconds_bucket{recorder=\"a-1\",le=\"0.000250\"} 2\naeron_recorder_settle_seconds_bucket{recorder=\"a-1\",le=\"0.000500\"} 3\naeron_recorder_settle_seconds_bucket{recorder=\"a-1\",le=\"0.001000\"} 3\naeron_recorder_settle_seconds_bucket{recorder=\"a-1\",le=\"0.002500\"} 3\n",
+    "aeron_recorder_settle_seconds_bucket{recorder=\"a-1\",le=\"2.500000\"} 3\naeron_recorder_settle_seconds_bucket{recorder=\"a-1\",le=\"5.000000\"} 4\naeron_recorder_settle_seconds_bucket{recorder=\"a-1\",le=\"+Inf\"} 5\naeron_recorder_settle_seconds_sum{recorder=\"a-1\"} 61.000203\naeron_recorder_settle_seconds_count{recorder=\"a-1\"} 5\n",
+    "aeron_recorder_connections_total{recorder=\"a-1\"} 1\n# HELP aeron_recorder_clients Clients of the control port that are served.\n# TYPE aeron_recorder_clients gauge\naeron_recorder_clients{recorder=\"a-1\"} 4\n# HELP aeron_recorder_client_places Clients of the control port that are served at a time at most.\n# TYPE aeron_recorder_client_places gauge\naeron_recorder_client_places{recorder=\"a-1\"} 8\n",
+    "aeron_recorder_open_replays{recorder=\"a-1\"} 3\n# HELP aeron_recorder_replay_position_bytes Where the next frame of an open replay begins.\n# TYPE aeron_recorder_replay_position_bytes gauge\naeron_recorder_replay_position_bytes{recorder=\"a-1\",replay=\"5\",recording=\"3\"} 4096\n",
+    "# TYPE aeron_recorder_image_datagrams_total counter\naeron_recorder_image_datagrams_total{recorder=\"a-1\",image=\"0\",stream=\"1001\",session=\"-7\"} 1\naeron_recorder_image_datagrams_total{recorder=\"a-1\",image=\"12\",stream=\"-5\",session=\"8\"} 13\n",
+    "# TYPE aeron_recorder_image_naks_total counter\naeron_recorder_image_naks_total{recorder=\"a-1\",image=\"0\",stream=\"1001\",session=\"-7\"} 2\n",
     "aeron_recorder_datagrams_repeated_total{recorder=\"a-1\"} 4\n",
     "# TYPE aeron_recorder_hole_bytes_total counter\naeron_recorder_hole_bytes_total{recorder=\"a-1\"} 9\n",
     "aeron_recorder_resuming{recorder=\"a-1\"} 12\n",
+    "# TYPE aeron_recorder_datagrams_foreign_total counter\naeron_recorder_datagrams_foreign_total{recorder=\"a-1\"} 13\n",
+    "# TYPE aeron_recorder_publications_refused_total counter\naeron_recorder_publications_refused_total{recorder=\"a-1\",cause=\"places\"} 14\naeron_recorder_publications_refused_total{recorder=\"a-1\",cause=\"recordings\"} 15\naeron_recorder_publications_refused_total{recorder=\"a-1\",cause=\"starts\"} 16\naeron_recorder_publications_refused_total{recorder=\"a-1\",cause=\"history\"} 17\naeron_recorder_publications_refused_total{recorder=\"a-1\",cause=\"broken\"} 18\naeron_recorder_publications_refused_total{recorder=\"a-1\",cause=\"memory\"} 19\naeron_recorder_publications_refused_total{recorder=\"a-1\",cause=\"other\"} 20\n",
+    "# TYPE aeron_recorder_images gauge\naeron_recorder_images{recorder=\"a-1\",rank=\"recorded\"} 21\naeron_recorder_images{recorder=\"a-1\",rank=\"waiting\"} 22\naeron_recorder_images{recorder=\"a-1\",rank=\"other\"} 23\n",
+    "aeron_recorder_recordings{recorder=\"a-1\"} 25\n# HELP aeron_recorder_recordings_limit Recordings that may stand.\n# TYPE aeron_recorder_recordings_limit gauge\naeron_recorder_recordings_limit{recorder=\"a-1\"} 26\n",
     "aeron_recorder_recorded_position_bytes{recorder=\"a-1\",recording=\"3\",stream=\"1001\",session=\"-7\"} 65472\n",
     "aeron_recorder_rebuilt_position_bytes{recorder=\"a-1\",image=\"0\",stream=\"1001\",session=\"-7\"} 65536\naeron_recorder_rebuilt_position_bytes{recorder=\"a-1\",image=\"12\",stream=\"-5\",session=\"8\"} 0\n",
     "aeron_recorder_consumed_position_bytes{recorder=\"a-1\",image=\"0\",stream=\"1001\",session=\"-7\"} 65504\n",
+    "# TYPE aeron_recorder_image_lost_total counter\naeron_recorder_image_lost_total{recorder=\"a-1\",image=\"0\",stream=\"1001\",session=\"-7\"} 3\n",
+    "# TYPE aeron_recorder_image_last_datagram_seconds gauge\naeron_recorder_image_last_datagram_seconds{recorder=\"a-1\",image=\"0\",stream=\"1001\",session=\"-7\"} 1.500000\n",
     "aeron_recorder_gap_seconds{recorder=\"a-1\",image=\"12\",stream=\"-5\",session=\"8\"} 0.250000\n",
+    "aeron_recorder_gap_bytes{recorder=\"a-1\",image=\"0\",stream=\"1001\",session=\"-7\"} 0\naeron_recorder_gap_bytes{recorder=\"a-1\",image=\"12\",stream=\"-5\",session=\"8\"} 250\n",
+    "# TYPE aeron_recorder_publication_hole_bytes gauge\naeron_recorder_publication_hole_bytes{recorder=\"a-1\",stream=\"1001\",session=\"-7\"} 0\naeron_recorder_publication_hole_bytes{recorder=\"a-1\",stream=\"-5\",session=\"8\"} 768\n",
 ];
 
 fn measures(alloc: Global) -> Result<Measures, AllocError> {
@@ -53,9 +66,7 @@ fn measures(alloc: Global) -> Result<Measures, AllocError> {
         recorder: RecorderMeasures {
             bytes: u64::MAX,
             frames: 2,
-            settles: 9,
-            settle_micros: 61_000_203,
-            longest_micros: 1,
+            settles: settles(),
         },
         datagrams: DatagramMeasures {
             received: 1,
@@ -73,8 +84,28 @@ fn measures(alloc: Global) -> Result<Measures, AllocError> {
             resumed_bytes: 11,
             resuming: 12,
         },
+        places: PlaceMeasures {
+            foreign: 13,
+            refused: RefusedMeasures {
+                places: 14,
+                recordings: 15,
+                starts: 16,
+                history: 17,
+                broken: 18,
+                memory: 19,
+                other: 20,
+            },
+            recorded: 21,
+            waiting: 22,
+            other: 23,
+            places: 24,
+            recordings: 25,
+            limit: 26,
+        },
         clients: ClientMeasures {
             connections: 1,
+            clients: 4,
+            places: 8,
             polls: 2,
             replays: 3,
         },
@@ -86,11 +117,27 @@ fn measures(alloc: Global) -> Result<Measures, AllocError> {
                 recorded: 65_472,
             },
         ]?,
+        replays: vec![in alloc;
+            ReplayMeasures {
+                replay: 5,
+                recording: 3,
+                next: 4_096,
+            },
+        ]?,
         images: vec![in alloc;
             image(0, 1_001, -7, 65_536, 0),
             image(12, -5, 8, 0, 250_000),
         ]?,
     })
+}
+
+/// Settles of 50, 51, 251, 5,000,000 and 55,999,851 microseconds.
+fn settles() -> SettleTimes {
+    let mut settles = SettleTimes::new();
+    for micros in [50, 51, 251, 5_000_000, 55_999_851] {
+        settles.note(micros);
+    }
+    settles
 }
 
 fn image(
@@ -107,6 +154,12 @@ fn image(
         rebuilt,
         consumed: rebuilt.saturating_sub(32),
         gap_micros,
+        gap_bytes: gap_micros / 1_000,
+        hole_bytes: image.saturating_mul(64),
+        datagrams: image.saturating_add(1),
+        naks: 2,
+        lost: 3,
+        silent_micros: 1_500_000,
     }
 }
 

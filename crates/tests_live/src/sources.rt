@@ -1,12 +1,38 @@
-//! Blocks from datagrams: docs/ARCHITECTURE.md, "Blocks from datagrams".
+//! Blocks from datagrams: docs/ARCHITECTURE.md, "Blocks from datagrams". The datagrams are those of docs/PROTOCOL.md, "Vectors".
 
-use crate::vectors::{HELLO_AT_0, HELLO_AT_64, HELLO_AT_128, HELLO_CUT_OFF, NAK_AT_64, SETUP};
 use agents_core::{BlockSource, DatagramEnd, ImageSource};
 use frame_core::{Block, Refusal, Setup};
 use image_core::Image;
 use std::alloc::Global;
 use std::sync::Wait;
 use std::test::Fail;
+
+/// `hello`, term 42, offset 0.
+const HELLO_AT_0: &[u8] =
+    b"\x25\0\0\0\0\xc0\x01\0\0\0\0\0\x07\0\0\0\xe9\x03\0\0\x2a\0\0\0\0\0\0\0\0\0\0\0hello";
+
+/// Its first 20 bytes, which are no frame.
+const HELLO_CUT_OFF: &[u8] = b"\x25\0\0\0\0\xc0\x01\0\0\0\0\0\x07\0\0\0\xe9\x03\0\0";
+
+/// `hello`, term 42, offset 64.
+const HELLO_AT_64: &[u8] =
+    b"\x25\0\0\0\0\xc0\x01\0\x40\0\0\0\x07\0\0\0\xe9\x03\0\0\x2a\0\0\0\0\0\0\0\0\0\0\0hello";
+
+/// `hello`, term 42, offset 128.
+const HELLO_AT_128: &[u8] =
+    b"\x25\0\0\0\0\xc0\x01\0\x80\0\0\0\x07\0\0\0\xe9\x03\0\0\x2a\0\0\0\0\0\0\0\0\0\0\0hello";
+
+/// The setup frame of terms of 65,536 bytes from term 42 on, joined at its beginning.
+const SETUP: &[u8] = &[
+    0x28, 0, 0, 0, 0, 0, 5, 0, 0, 0, 0, 0, 7, 0, 0, 0, 0xe9, 3, 0, 0, 0x2a, 0, 0, 0, 0x2a, 0, 0, 0,
+    0, 0, 1, 0, 0x80, 5, 0, 0, 0, 0, 0, 0,
+];
+
+/// A request for 64 bytes at offset 64 of term 42.
+const NAK_AT_64: &[u8] = &[
+    0x1c, 0, 0, 0, 0, 0, 2, 0, 7, 0, 0, 0, 0xe9, 3, 0, 0, 0x2a, 0, 0, 0, 0x40, 0, 0, 0, 0x40, 0, 0,
+    0,
+];
 
 /// Datagrams that come in their order, and how many came; how many requests were sent, and the last of them.
 #[derive(Drop)]

@@ -41,6 +41,12 @@ returns-in_err-settle_every c = rw c.from_residual-in_err-settle_every.ensures
     number_lacks (λ text x. ParsesUnsigned 32 10 text x × ExplainsUnsignedError 10 text x × HasUnsignedDigitsIfOk text x) (λ text x read. read.0)
     (found_of c.args.own.now) (codes "settle-every") words.settle_every _ c.get_one-4.ensures.value c.in_err-settle_every.was serving.settle_is)
 
+pub returns-in_err-times_every : goal.returns-in_err-times_every
+returns-in_err-times_every c = rw c.from_residual-in_err-times_every.ensures
+    (λ words serving.
+    number_lacks (λ text x. ParsesUnsigned 32 10 text x × ExplainsUnsignedError 10 text x × HasUnsignedDigitsIfOk text x) (λ text x read. read.0)
+    (found_of c.args.own.now) (codes "times-every") words.times_every _ c.get_one-5.ensures.value c.in_err-times_every.was serving.times_every_is)
+
 pub returns : goal.returns
 returns c = record {
   folder_is = text_given (found_of c.args.own.now) (codes "folder") _ _ c.get_str.ensures c.in_ok-folder.was;
@@ -61,12 +67,16 @@ returns c = record {
   consumers_is = number_if (λ text x. ParsesUnsigned 32 10 text x × ExplainsUnsignedError 10 text x × HasUnsignedDigitsIfOk text x) (λ text x read. read.0)
       (found_of c.args.own.now) (codes "consumers") _ c.get_one-consumers.ensures.none c.get_one-consumers.ensures.value;
   consumers_on_is = text_given (found_of c.args.own.now) (codes "consumers-on") _ _ c.get_str-consumers_on.ensures refl;
-  streams_are = c.requires;
+  streams_are = c.requires.streams;
+  networks_are = c.requires.networks;
   segment_is = number_if (λ text x. ParsesUnsigned 32 10 text x × ExplainsUnsignedError 10 text x × HasUnsignedDigitsIfOk text x) (λ text x read. read.0)
       (found_of c.args.own.now) (codes "segment-length") _ c.get_one-segment_length.ensures.none c.get_one-segment_length.ensures.value;
   quiet_is = flag_given (found_of c.args.own.now) (codes "quiet") _ c.get_flag-is_quiet.ensures.none c.get_flag-is_quiet.ensures.value c.get_flag-is_quiet.ensures.other;
   strict_is = flag_given (found_of c.args.own.now) (codes "strict") _ c.get_flag-is_strict.ensures.none c.get_flag-is_strict.ensures.value c.get_flag-is_strict.ensures.other;
   metrics_is = text_given (found_of c.args.own.now) (codes "metrics") _ _ c.get_str-metrics.ensures refl;
+  times_is = text_given (found_of c.args.own.now) (codes "times") _ _ c.get_str-times.ensures refl;
+  times_every_is = number_given (λ text x. ParsesUnsigned 32 10 text x × ExplainsUnsignedError 10 text x × HasUnsignedDigitsIfOk text x) (λ text x read. read.0)
+      (found_of c.args.own.now) (codes "times-every") _ _ c.get_one-5.ensures.none c.get_one-5.ensures.value c.in_ok-times_every.was;
   checkpoints_is = flag_given (found_of c.args.own.now) (codes "checkpoints") _ c.get_flag-checkpoints.ensures.none c.get_flag-checkpoints.ensures.value c.get_flag-checkpoints.ensures.other;
   no_checkpoints_is = flag_given (found_of c.args.own.now) (codes "no-checkpoints") _ c.get_flag-no_checkpoints.ensures.none c.get_flag-no_checkpoints.ensures.value c.get_flag-no_checkpoints.ensures.other;
   name_is = text_given (found_of c.args.own.now) (codes "name") _ _ c.get_str-name.ensures refl;

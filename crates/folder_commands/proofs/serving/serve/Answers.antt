@@ -48,12 +48,12 @@ pub returns : goal.returns
 returns g c =
     let first = host_life c.in_ok-disk.disk in
     let old = host_life c.new-disk.result.disk in
-    let new = host_life c.serve_disk-disk.result.0.disk in
+    let new = host_life c.serve_reporting-disk.result.0.disk in
     let is : old ≡ host_life c.in_ok-ready.ready = ap host_life c.new-disk.ensures in
-    served g.given c.args.words.now (sees c.leaving.result) _ _ c.in_ok-options.ensures c.in_ok-addresses.ensures (leaves c.leaving.result) first old new (ending_in c.serve_disk-disk.result.1) (ends_with c.leaving.result)
+    served g.given c.args.words.now (sees c.leaving.result) _ _ c.in_ok-options.ensures c.in_ok-addresses.ensures (leaves c.leaving.result) first old new (ending_in c.serve_reporting-disk.result.1) (ends_with c.leaving.result)
     c.begun_with-begun.result.is_strict
     c.in_ok-disk.ensures.begun
     (subst (λ (l : Life). IsQuiet first l) (sym is) c.in_ok-ready.ensures.quiet)
     (subst (λ (l : Life). IsTrue c.args.words.now.no_create → HasCatalogue first l) (sym is) c.in_ok-ready.ensures.there)
     (c.leaving.ensures.left ∙ c.closed.ensures) c.leaving.ensures.ending
-    (ap (λ (o : ServeOptions). o.is_strict) c.begun_with-begun.ensures) c.serve_disk-disk.ensures
+    (ap (λ (o : ServeOptions). o.is_strict) c.begun_with-begun.ensures) c.serve_reporting-disk.ensures

@@ -1,0 +1,5 @@
+pub mod LineLemmas
+pub mod TextLemmas
+pub mod FoundLemmas
+pub mod SearchLemmas
+pub mod LastLemmas
