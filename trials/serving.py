@@ -9,6 +9,7 @@ in a hundred has every byte recorded. What `positions` and settlings answered is
 datagrams and connections that break every rule leave the server answering the next client, below a stated memory.
 """
 import argparse
+import atexit
 import random
 import select
 import shutil
@@ -20,7 +21,7 @@ import sys
 import tempfile
 import time
 from collections.abc import Iterator
-from contextlib import AbstractContextManager, contextmanager
+from contextlib import AbstractContextManager, contextmanager, suppress
 from dataclasses import replace
 from pathlib import Path
 from typing import TypeVar
@@ -42,10 +43,12 @@ PATIENCE = 60  # seconds that a trial waits for what has to come
 
 
 def free_port(kind: int) -> int:
-    """A port of this machine that nobody has."""
-    with socket.socket(socket.AF_INET, kind) as found:
-        found.bind(("127.0.0.1", 0))
-        return found.getsockname()[1]
+    """A port of this machine that nobody has, below those that the system gives to connections."""
+    while True:
+        port = random.SystemRandom().randrange(10_000, 32_000)
+        with socket.socket(socket.AF_INET, kind) as found, suppress(OSError):
+            found.bind(("127.0.0.1", port))
+            return port
 
 
 AnyServer = TypeVar("AnyServer", bound="Server")
@@ -59,6 +62,7 @@ class Server:
         self.told = tempfile.TemporaryFile("w+")
         ports = ["--control", str(self.control), "--receive", str(self.receive)]
         self.process = subprocess.Popen([tool, "serve", folder, *ports, *options], stderr=self.told)
+        atexit.register(self.process.kill)
         self.client().close()
 
     def client(self) -> Client:
