@@ -213,12 +213,14 @@ fn an_image_waits_for_its_session(rt: HostRuntime) -> Result<(), Fail> {
 const RIVAL: &str = "\
 asks start 1001 7 42 65536 1408 65536 0 1000 c: started 0 0
 casts SETUP
-asks write 0 00: error 21 BadFrame 0
-asks block 0 2500000000c001000000000007000000e90300002a000000000000000000000068656c6c6f: settled 64
 casts HELLO_AT_0
-loses
+awaits positions 0: positions 0 64 -1
+asks write 0 00: error 21 BadFrame 0
+asks block 0 2500000000c001004000000007000000e90300002a000000000000000000000068656c6c6f: settled 128
 casts HELLO_AT_64
-asks positions 0: positions 0 64 -1
+loses
+casts HELLO_AT_128
+asks positions 0: positions 0 128 -1
 ";
 
 /// After a client's block the image's next one is refused: the image is lost, and the session keeps what it wrote. A refused line
