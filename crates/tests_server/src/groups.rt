@@ -31,13 +31,18 @@ impl<R: Clock> Viewer<MemoryDisk> for Slow<'_, R> {
     }
 }
 
-/// Counts the files that it is given, and the failures that it is told of. It fails, if it is to.
+/// Counts the files that it is given, and the failures that it is told of. It fails, if it is to. It takes longer than a sync that
+/// counts as slow.
 #[derive(Drop)]
 struct Flushes {
     fails: bool,
     files: AtomicU32,
     failures: AtomicU32,
+    turns: AtomicU32,
 }
+
+/// Turns of a flush: some milliseconds.
+const TURNS: u32 = 1_000_000;
 
 impl Flusher for Flushes {
     fn width(&self) -> usize {
@@ -47,6 +52,9 @@ impl Flusher for Flushes {
     fn flush(&self, file: FileId) -> io::Result<()> {
         let _ = file;
         self.files.fetch_add(1, Ordering::SeqCst);
+        for _ in 0..TURNS {
+            self.turns.fetch_add(1, Ordering::SeqCst);
+        }
         if self.fails {
             return Err(ErrorKind::Other.into());
         }
@@ -91,29 +99,36 @@ fn casts_first(client: &Client, session_id: u8) -> bool {
     client.casts(setup_of(session_id).as_slice()) && client.casts(hello_of(session_id).as_slice())
 }
 
-/// Sends the second frame of each publication, and gives the server time to write both.
-fn casts_second<R: Clock>(rt: &R, client: &Client) -> bool {
+/// Whether the first frames of both recordings are recorded.
+fn have_first<R: Clock>(rt: &R, alloc: Global, client: &mut Client) -> bool {
+    client.awaits(rt, alloc, "positions 0", "positions 0 64 -1")
+        && client.awaits(rt, alloc, "positions 1", "positions 0 64 -1")
+}
+
+/// Sends the second frame of each publication, and gives the server time to write both. The flushes of files from then on count.
+fn casts_second<R: Clock>(rt: &R, client: &Client, flushes: &Flushes) -> bool {
     thread::sleep(rt, Duration::from_millis(300));
+    flushes.files.store(0, Ordering::SeqCst);
     let is_sent = client.casts(next_of(7).as_slice()) && client.casts(next_of(8).as_slice());
     thread::sleep(rt, Duration::from_millis(500));
     is_sent
 }
 
-/// Whether two streams are recorded. One frame of the first is settled alone, so that the server knows how slow syncs are; its second
-/// one and both of the second stream wait for their settling.
+/// Whether two streams are recorded, and a frame more of each waits for its settling.
 fn are_cast<R: Clock + Net<Listener = TcpListener, Stream = TcpStream>>(
     rt: &R,
     alloc: Global,
     ports: Ports,
+    flushes: &Flushes,
 ) -> bool {
     let Some(mut client) = Client::new(rt, alloc, ports) else {
         return false;
     };
     have_begun(&mut client, alloc)
         && casts_first(&client, 7)
-        && client.awaits(rt, alloc, "positions 0", "positions 0 64 -1")
         && casts_first(&client, 8)
-        && casts_second(rt, &client)
+        && have_first(rt, alloc, &mut client)
+        && casts_second(rt, &client, flushes)
 }
 
 /// The disk that such a server leaves that quits then.
@@ -126,17 +141,17 @@ fn served_slowly<
     let (back, is_right) = thread::join(
         rt,
         move || disk_flushed(rt, alloc, ends, disk, &options, flushes),
-        move || are_cast(rt, alloc, ports) && quits(rt, alloc, ports),
+        move || are_cast(rt, alloc, ports, flushes) && quits(rt, alloc, ports),
     );
     let (disk, _) = back?.into_parts();
     if is_right { Some(disk) } else { None }
 }
 
-/// Whether both recordings of a disk have both frames, by two entries of the first session and one of the second next to the starts.
+/// Whether both recordings of a disk have both frames, by two entries of each session next to the starts.
 fn has_all(alloc: Global, disk: MemoryDisk) -> bool {
     match Engine::open(alloc, disk) {
         Ok((engine, _)) => {
-            is_recorded(&engine, 0) && is_recorded(&engine, 1) && engine.desk().counted() == 5
+            is_recorded(&engine, 0) && is_recorded(&engine, 1) && engine.desk().counted() == 6
         }
         Err(_) => false,
     }
@@ -156,6 +171,7 @@ fn unused(fails: bool) -> Flushes {
         fails,
         files: AtomicU32::new(0),
         failures: AtomicU32::new(0),
+        turns: AtomicU32::new(0),
     }
 }
 
