@@ -28,11 +28,11 @@ from lib.tool import ROOT, Fault, conclude, expect, file_system, program, room, 
 sys.path.insert(0, str(ROOT / "trials"))
 from following import Looking  # noqa: E402
 from lib.followers import HEARTBEAT  # noqa: E402
-from serving import Sender, Server, start_line  # noqa: E402
+from serving import Sender, Server, killed_at_last, start_line  # noqa: E402
 
 OF_SENDFILE, OF_POLLS = 0.3, 1.4  # goals, of frames of 1,408 bytes
 LATER = 0.010  # seconds that a follower may come after `positions`, at the 99th percentile
-LEAST = 0.99  # of the bytes of all frames: of a pad, which is one of them, 32 bytes come
+TERM_LENGTH, PAD_LENGTH = 16_777_216, 32  # sender.rs's term; what comes of the pad that fills its rest, one of the frames
 OPTIONS = "--clients", "4"
 
 
@@ -84,24 +84,31 @@ def by_polls(server: Server, archive: Path) -> int:
     return count
 
 
+def least_bytes(frames: int, size: int) -> int:
+    """How many bytes come at least of so many frames, the pads of whole terms among them."""
+    messages, rest = divmod(TERM_LENGTH, size)
+    pads = frames // (messages + 1) if rest else 0
+    return (frames - pads) * size + pads * PAD_LENGTH
+
+
 def rates(tool: Path, sender: Path, folder: Path, frames: int, size: int, runs: int) -> dict[str, float]:
     """Frames a second of each way, medians."""
     run([tool, "create", folder, "--history", "16777216"])
-    server = Server(tool, folder, "--aeron")
-    words = [sender, str(server.control), str(server.receive), str(frames), str(size), "--flow-control"]
-    subprocess.run(words, stdout=subprocess.DEVNULL, check=True)
-    expect("the server's status", server.process.wait(60), 0)
-    server = Server(tool, folder, *OPTIONS)
+    with killed_at_last(Server(tool, folder, "--aeron")) as server:
+        words = [sender, str(server.control), str(server.receive), str(frames), str(size), "--flow-control"]
+        subprocess.run(words, stdout=subprocess.DEVNULL, check=True)
+        expect("the server's status", server.process.wait(60), 0)
     ways: dict[str, Callable[[Server, Path], int]] = {"follow": by_follow, "sendfile": by_sendfile, "polls of 64": by_polls}
     found: dict[str, list[float]] = {name: [] for name in ways}
-    for _ in range(runs):
-        for name, way in ways.items():
-            begun = time.monotonic()
-            count = way(server, folder)
-            found[name].append(frames / (time.monotonic() - begun))
-            if count < LEAST * frames * size:
-                raise Fault(f"{name}: {count} bytes of {frames} frames of {size}")
-    server.quit()
+    with killed_at_last(Server(tool, folder, *OPTIONS)) as server:
+        for _ in range(runs):
+            for name, way in ways.items():
+                begun = time.monotonic()
+                count = way(server, folder)
+                found[name].append(frames / (time.monotonic() - begun))
+                if count < least_bytes(frames, size):
+                    raise Fault(f"{name}: {count} bytes of {frames} frames of {size}")
+        server.quit()
     return {name: statistics.median(each) for name, each in found.items()}
 
 

@@ -31,10 +31,10 @@ from dataclasses import dataclass
 from pathlib import Path
 
 from measure import compiled
-from lib.tool import ROOT, Fault, conclude, expect, file_system, program, room, run, stop_positions
+from lib.tool import ROOT, Fault, conclude, expect, file_system, free_port, program, room, run, stop_positions
 
 sys.path.insert(0, str(ROOT / "trials"))
-from serving import Server, free_port, settles  # noqa: E402
+from serving import Server, settles  # noqa: E402
 
 LIBRARY = ROOT / "crates/trial_lock/out/trial_lock"
 FRAME = 1_408

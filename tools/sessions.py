@@ -26,6 +26,7 @@ from repository import ROOT
 
 sys.path.insert(0, str(ROOT / "trials"))
 from lib import followers  # noqa: E402
+from lib.tool import free_port  # noqa: E402
 
 PAGES = [ROOT / "README.md", ROOT / "CONTRIBUTING.md", ROOT / "SECURITY.md", *sorted((ROOT / "docs").glob("*.md"))]
 BLOCK = re.compile(r"^```console\n(.*?)^```$", re.M | re.S)
@@ -88,13 +89,6 @@ def shown_commands(page: Path) -> list[str]:
         command = re.sub(r"\\\n +", "", one or other)
         found += [re.sub(r" ?\[[^\]]*\]", "", command), re.sub(r"[\[\]]", "", command.replace("[folder]", "<folder>"))]
     return list(dict.fromkeys(found))
-
-
-def free_port(kind: int) -> int:
-    """A port of this machine that nobody has."""
-    with socket.socket(socket.AF_INET, kind) as found:
-        found.bind(("127.0.0.1", 0))
-        return found.getsockname()[1]
 
 
 def filled(command: str, folder: Path, control: int) -> list[str]:

@@ -35,8 +35,8 @@ from pathlib import Path
 from flow_control import FaultySender, receiver
 from lib.metrics import Reader
 from lib.mounts import Skipped, mounted
-from serving import MOST_MEMORY, PATIENCE, STREAM, Client, Faults, Server, compare, free_port
-from lib.tool import STREAM_ID, Fault, bank, conclude, expect, file_system, program, room, run, trial_words
+from serving import MOST_MEMORY, PATIENCE, STREAM, Client, Faults, Server, compare
+from lib.tool import STREAM_ID, Fault, bank, conclude, expect, file_system, free_port, program, room, run, trial_words
 
 
 @dataclass

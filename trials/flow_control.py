@@ -30,11 +30,11 @@ from contextlib import contextmanager
 from pathlib import Path
 
 from serving import (
-    PATIENCE, STREAM, Client, Faults, Server, compare, free_port, payload, publication_of, recorded_position, served, settles, start_line,
+    PATIENCE, STREAM, Client, Faults, Server, compare, payload, publication_of, recorded_position, served, settles, start_line,
     write_capture,
 )
 from lib.tool import (
-    INITIAL_TERM, ROOT, SESSION_ID, STREAM_ID, Fault, conclude, dissected, expect, file_system, program, read_numbers, room, run,
+    INITIAL_TERM, ROOT, SESSION_ID, STREAM_ID, Fault, conclude, dissected, expect, file_system, free_port, program, read_numbers, room, run,
     run_trials, stop_positions, trial_words,
 )
 

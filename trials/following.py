@@ -23,10 +23,10 @@ from pathlib import Path
 
 from lib import bent_lines
 from lib.followers import DATA, END_OF_STREAM, FAULT, HEARTBEAT, PAD, Command, followers
-from lib.tool import ROOT, SESSION_ID, Fault, aligned, conclude, expect, program, room, run, run_trials, trial_words
+from lib.tool import ROOT, SESSION_ID, Fault, aligned, conclude, expect, free_port, program, room, run, run_trials, trial_words
 from readers.archive import files_of, looked_at
 from readers.catalogue import Recording
-from serving import IN_FLIGHT, STREAM, Sender, Server, free_port, publication_of, served_by, start_line
+from serving import IN_FLIGHT, STREAM, Sender, Server, publication_of, served_by, start_line
 
 sys.path.insert(0, str(ROOT / "examples"))
 from client import Client  # noqa: E402

@@ -39,9 +39,9 @@ from flow_control import FaultySender
 from lib.alert_cases import CASES, alerts_of, write_tests
 from lib.collectors import EXPORTER, PROMETHEUS, Prometheus, await_that, exporter, fetched, prometheus
 from lib.mounts import Skipped
-from lib.tool import ROOT, SESSION_ID, Fault, Stream, conclude, expect, program, room, run, run_trials, trial_words
+from lib.tool import ROOT, SESSION_ID, Fault, Stream, conclude, expect, free_port, program, room, run, run_trials, trial_words
 from lib.unit import Unit
-from serving import PATIENCE, STREAM, Client, Faults, Server, free_port, served
+from serving import PATIENCE, STREAM, Client, Faults, Server, served
 
 OPERATIONS = ROOT / "examples/operations"
 RULES, DASHBOARD, SERVICE, RETENTION = (OPERATIONS / name for name in ("alerts.yml", "dashboard.json", "recorder.service", "retention.py"))

@@ -27,9 +27,9 @@ from contextlib import AbstractContextManager
 from itertools import pairwise
 from pathlib import Path
 
-from serving import PATIENCE, Server, compare, free_port, killed_at_last, payload
+from serving import PATIENCE, Server, compare, killed_at_last, payload
 from lib.mounts import mounted
-from lib.tool import INITIAL_TERM, ROOT, STREAM_ID, Fault, conclude, expect, program, room, run, run_trials, trial_words
+from lib.tool import INITIAL_TERM, ROOT, STREAM_ID, Fault, conclude, expect, free_port, program, room, run, run_trials, trial_words
 
 sys.path.insert(0, str(ROOT / "examples"))
 from sender import HEADER_LENGTH, IDLE_SECONDS, NAK, PAD, UNFRAGMENTED, FlowControlled, Publication, kind_of  # noqa: E402

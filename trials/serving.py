@@ -9,7 +9,6 @@ in a hundred has every byte recorded. What `positions` and settlings answered is
 datagrams and connections that break every rule leave the server answering the next client, below a stated memory.
 """
 import argparse
-import atexit
 import random
 import select
 import shutil
@@ -21,15 +20,15 @@ import sys
 import tempfile
 import time
 from collections.abc import Iterator
-from contextlib import AbstractContextManager, contextmanager, suppress
+from contextlib import AbstractContextManager, contextmanager
 from dataclasses import replace
 from pathlib import Path
 from typing import TypeVar
 
 from readers.catalogue import SETTLE, read_banks
 from lib.tool import (
-    INITIAL_TERM, ROOT, SESSION_ID, STREAM_ID, Fault, Stream, conclude, dissected, expect, file_system, program, replayed, room, run,
-    run_trials, stop_positions, told_of_frame, trial_words,
+    INITIAL_TERM, ROOT, SESSION_ID, STREAM_ID, Fault, Stream, conclude, dissected, expect, file_system, free_port, program, replayed, room,
+    run, run_trials, stop_positions, told_of_frame, trial_words,
 )
 
 sys.path.insert(0, str(ROOT / "examples"))
@@ -40,15 +39,6 @@ STREAM = Stream(term_length=1_048_576, segment_length=1_048_576)
 IN_FLIGHT = 262_144  # bytes that a sender lets stand past the recorded position
 MOST_MEMORY = 400  # megabytes, while nobody polls: docs/SERVING.md, "Memory"
 PATIENCE = 60  # seconds that a trial waits for what has to come
-
-
-def free_port(kind: int) -> int:
-    """A port of this machine that nobody has, below those that the system gives to connections."""
-    while True:
-        port = random.SystemRandom().randrange(10_000, 32_000)
-        with socket.socket(socket.AF_INET, kind) as found, suppress(OSError):
-            found.bind(("127.0.0.1", port))
-            return port
 
 
 AnyServer = TypeVar("AnyServer", bound="Server")
@@ -62,7 +52,6 @@ class Server:
         self.told = tempfile.TemporaryFile("w+")
         ports = ["--control", str(self.control), "--receive", str(self.receive)]
         self.process = subprocess.Popen([tool, "serve", folder, *ports, *options], stderr=self.told)
-        atexit.register(self.process.kill)
         self.client().close()
 
     def client(self) -> Client:

@@ -19,8 +19,7 @@ from functools import partial
 from pathlib import Path
 
 from lib.mounts import Skipped, mount, mounted
-from serving import free_port
-from lib.tool import Session, Stream, bank, expect, hides, program, room
+from lib.tool import Session, Stream, bank, expect, free_port, hides, program, room
 
 STREAM = Stream(term_length=65_536, segment_length=131_072)
 START = STREAM.start("c")
