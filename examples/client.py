@@ -4,8 +4,8 @@ docs/SERVING.md, "Control lines".
 
 Usage: examples/client.py HOST:PORT < lines
 
-A line is sent once the one before it was answered. A reply is one line, but those of `list`, `poll`, `images` and `replays`: lines
-that begin with `recording`, `frame`, `image` or `open`, and one more. At a line `follow`, whose answer is bytes, it ends with status 2.
+A line is sent once the one before it was answered. A reply is one line, but those of `list`, `poll`, `images`, `replays` and
+`sends`: lines that begin with `recording`, `frame`, `image`, `open` or `send`, and one more. At a line `follow`, whose answer is bytes, it ends with status 2.
 """
 import socket
 import sys
@@ -15,7 +15,7 @@ from collections.abc import Iterator
 
 PATIENCE = 5  # seconds in which a server may begin to listen
 LONG_REPLIES = {  # how all lines but the last begin
-    "list": "recording ", "poll": "frame ", "poll-to": "frame ", "images": "image ", "replays": "open ",
+    "list": "recording ", "poll": "frame ", "poll-to": "frame ", "images": "image ", "replays": "open ", "sends": "send ",
 }  # fmt: skip
 
 

@@ -15,7 +15,7 @@ use Rattle.archive_commands.specs.declared.frames.Listing.{Listing}
 use Rattle.archive_commands.specs.declared.frames.Listing.TheVariants.{Whole, Damaged}
 use Rattle.archive_commands.specs.declared.frames.Listed.{Listed}
 use Rattle.archive_commands.specs.FrameLines.{EndsFrames, HasFrames, HasNoFrame, IsListing, IsListingOfFirst, Lists, ListsSome, StandsFirst, end_text, frame_text}
-use Rattle.archive_commands.specs.Stored.{FailsToList, ListsNext, PassesFrame}
+use Rattle.archive_commands.specs.Stored.{FailsToWriteLine, ListsNext, PassesFrame}
 
 -- these frames stand first in the file, where its bytes are known, and this is left of it
 abbrev pub Stand : Option (List ℕ) → Option (List ℕ) → List Frame → Type 0
@@ -116,7 +116,7 @@ first_listed file now contents written then progress so_far kept = record {
   by (Some xs) None stand = absurd stand
   by (Some xs) (Some ys) stand = (so_far.headers, ys, stand, refl)
 
-pub some_listed : (file now contents written then : Option (List ℕ)) (progress : Listed) (end : EarlyEnd) → HasListed file now contents written progress → FailsToList end written then → ListsSome end file contents then
+pub some_listed : (file now contents written then : Option (List ℕ)) (progress : Listed) (end : EarlyEnd) → HasListed file now contents written progress → FailsToWriteLine end written then → ListsSome end file contents then
 some_listed file now contents written then progress ends.Read so_far kept = first_listed file now contents written then progress so_far kept
 some_listed file now contents written then progress ends.Memory so_far fails = absurd fails
 some_listed file now contents written then progress ends.Write so_far fails = tt

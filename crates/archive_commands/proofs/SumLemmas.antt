@@ -7,14 +7,14 @@ use Rattle.std.specs.Ordering.{is_eq}
 use Rattle.disk_core.specs.declared.file_id.FileId.{FileId}
 use Rattle.disk_core.specs.FileNames.{file_cmp}
 use Rattle.archive_commands.specs.declared.progress.ListedFile.{ListedFile}
-use Rattle.archive_commands.specs.Progress.{bytes_before, bytes_in, counted}
+use Rattle.archive_commands.specs.Progress.{bytes_before, bytes_of_files, counted}
 
 counted_as : (total : ℕ) → total ≤ 18446744073709551615 → total ≡ counted (total + 0)
 counted_as total fits = omega (arith, fits)
 
 -- no file is left
-pub in_all : (files : List ListedFile) (i total : ℕ) → length files ≤ i → total ≤ 18446744073709551615 → counted (total + bytes_in (drop i files)) ≡ counted (bytes_in files) → total ≡ counted (bytes_in files)
-in_all files i total past fits so_far = counted_as total fits ∙ ap (λ fs. counted (total + bytes_in fs)) (sym (drop_all i files past)) ∙ so_far
+pub in_all : (files : List ListedFile) (i total : ℕ) → length files ≤ i → total ≤ 18446744073709551615 → counted (total + bytes_of_files (drop i files)) ≡ counted (bytes_of_files files) → total ≡ counted (bytes_of_files files)
+in_all files i total past fits so_far = counted_as total fits ∙ ap (λ fs. counted (total + bytes_of_files fs)) (sym (drop_all i files past)) ∙ so_far
 
 pub before_all : (file : FileId) (files : List ListedFile) (i total : ℕ) → length files ≤ i → total ≤ 18446744073709551615 → counted (total + bytes_before file (drop i files)) ≡ counted (bytes_before file files) → total ≡ counted (bytes_before file files)
 before_all file files i total past fits so_far = counted_as total fits ∙ ap (λ fs. counted (total + bytes_before file fs)) (sym (drop_all i files past)) ∙ so_far

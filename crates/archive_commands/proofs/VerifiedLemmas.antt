@@ -25,7 +25,8 @@ use Rattle.engine_core.specs.Shown.{CountsShown}
 use Rattle.tool_core.specs.declared.fault.EarlyEnd.{EarlyEnd}
 use Rattle.archive_commands.specs.declared.reports.Verdict.{Verdict}
 use Rattle.archive_commands.specs.Reports.{AnswersEach, HasReported, HasReportedFirst, InTurn, InTurnAndOne, IsEngineOf, Verifications, verifies_by}
-use Rattle.tool_core.proofs.CallLemmas.{answered_at, wider_cause}
+use Rattle.control_core.proofs.FaultLemmas.{other_cause}
+use Rattle.tool_core.proofs.CallLemmas.{answered_at}
 
 -- a device fault is answered where a call of the disk has failed; those of both have their causes
 faults_then : (old mid new : Life) (outcome : Result Reply Refusal) (last : List (Result Reply Refusal)) → DiskGoesOn old mid → (outcome ≡ Err DeviceFault → HasFailed old mid) → HasFailedOften (faults_in last) mid new
@@ -109,7 +110,7 @@ exact_one : (old new : EngineState) (id : ℤ) (outcome : Result Reply Refusal) 
 exact_one old new id outcome answers a was obeys =
     let ended = answered_at old new a (Verify id) outcome was.desk was.consistent answers (λ cut. obeys) in
     let b : Archive = archive_of new ended.after in
-    let ends = wider_cause a (Verify id) (HasFailed old.life new.life) (Unit {0}) outcome b (λ failed. tt) (ended.ends.0 (λ reads. obeys)) in
+    let ends = other_cause a (Verify id) (HasFailed old.life new.life) (Unit {0}) outcome b (λ failed. tt) (ended.ends.0 (λ reads. obeys)) in
     subst (λ (x : Archive). CallEnds a (Verify id) (Unit {0}) outcome x) ended.ends.1 ends
 
 -- one before the others

@@ -83,7 +83,7 @@ FailsToList old new (Cut end) contents written = HasListedSome old new contents 
 
 module _ (asked : Option ℤ) where
   -- the archive was opened, each of its recordings verified, or the one that was asked for, and the answers are written
-  pub record HasVerified (old new : Life) (contents written : Option (List ℕ)) (verdict : Verdict) : Type 0 where
+  pub record HasVerifiedOpened (old new : Life) (contents written : Option (List ℕ)) (verdict : Verdict) : Type 0 where
     pub opened : EngineState
     pub opens : IsOpenedBy old opened
     pub there : KnowsAsked asked opened.desk

@@ -19,9 +19,9 @@ pub record AreListed (image : DiskImage) (listed : List ListedFile) : Type 0 whe
   pub lengths : All (λ (l : ListedFile). l.length ≡ segment_bytes image l.file) listed
 
 -- the bytes of these files together
-abbrev pub bytes_in : List ListedFile → ℕ
-bytes_in [] = 0
-bytes_in (listed ∷ files) = listed.length + bytes_in files
+abbrev pub bytes_of_files : List ListedFile → ℕ
+bytes_of_files [] = 0
+bytes_of_files (listed ∷ files) = listed.length + bytes_of_files files
 
 -- the bytes of the files before this one
 abbrev pub bytes_before : FileId → List ListedFile → ℕ

@@ -68,7 +68,7 @@ ListsNext (Some Whole) file rest contents written old new = IfSome file EndsFram
 ListsNext (Some Damaged) file rest contents written old new = IfSome file HasNoFrame × Appends contents written (refusal_text (BadFrame old.offset))
 
 -- why such a line was not written: nothing was where the file could not be read on; nothing is said of a writer that failed
-abbrev pub FailsToList : EarlyEnd → Option (List ℕ) → Option (List ℕ) → Type 0
-FailsToList ends.Read contents written = Keeps contents written
-FailsToList ends.Memory contents written = ⊥
-FailsToList ends.Write contents written = Unit {0}
+abbrev pub FailsToWriteLine : EarlyEnd → Option (List ℕ) → Option (List ℕ) → Type 0
+FailsToWriteLine ends.Read contents written = Keeps contents written
+FailsToWriteLine ends.Memory contents written = ⊥
+FailsToWriteLine ends.Write contents written = Unit {0}

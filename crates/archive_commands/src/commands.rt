@@ -5,7 +5,7 @@ ghost use Rattle.std.specs.Io.KnownBytes.{Appends};
 ghost use Rattle.frame_core.specs.declared.refusal.Refusal.TheVariants.{BadParameter};
 ghost use Rattle.engine_core.specs.Seen.{seen};
 ghost use Rattle.archive_commands.specs.declared.commands.Stop.TheVariants.{Refused};
-ghost use Rattle.archive_commands.specs.Commands.{FailsToCompact, FailsToCreate, FailsToList, FailsToVerify, HasListed, HasVerified, IsCreated, IsOpenedBy, IsUnopenedBy};
+ghost use Rattle.archive_commands.specs.Commands.{FailsToCompact, FailsToCreate, FailsToList, FailsToVerify, HasListed, HasVerifiedOpened, IsCreated, IsOpenedBy, IsUnopenedBy};
 ghost use Rattle.tool_core.specs.Archives.{HasCompacted};
 
 use crate::reports::{Verdict, has_asked, list_recordings, verify_recordings};
@@ -139,7 +139,7 @@ pub fn verify_archive<W: Write, D: Disk, O: Observer>(
     writer: &mut W,
     observer: &mut O,
 ) -> Result<(D, Verdict), CommandFault<D>>
-    ensures verified { IfOk result (λ found. HasVerified asked (D.life disk) (D.life found.0)
+    ensures verified { IfOk result (λ found. HasVerifiedOpened asked (D.life disk) (D.life found.0)
         (W.contents writer.old) (W.contents writer.new) found.1) }
     ensures fault { IfErr result (λ fault. FailsToVerify asked (D.life disk) (D.life fault.disk) fault.why
         (W.contents writer.old) (W.contents writer.new)) }

@@ -3,7 +3,7 @@
 ghost use Rattle.std.specs.Prelude.{◌≡◌, ◌<◌, ◌≤◌, IfErr, IfOk, OnOk};
 ghost use Rattle.std.specs.Io.KnownBytes.{Appends};
 ghost use Rattle.frame_core.specs.FrameEncoding.{frame_of, type_of};
-ghost use Rattle.archive_commands.specs.Stored.{FailsToList, ListsNext};
+ghost use Rattle.archive_commands.specs.Stored.{FailsToWriteLine, ListsNext};
 ghost use Rattle.archive_commands.specs.FrameLines.{IsListing, Lists, ListsSome, end_text, frame_text};
 
 use crate::stored::{Next, pass_next, read_header};
@@ -107,7 +107,7 @@ fn list_next<R: BufRead, W: Write>(
     ensures counted { OnOk result
         ((progress.old.reads < MAX_READS) × (progress.old.reads < progress.new.reads)) }
     ensures fewer { OnOk result (progress.new.count ≤ progress.new.reads) }
-    ensures early { IfErr result (λ end. FailsToList end (W.contents writer.old) (W.contents writer.new)) }
+    ensures early { IfErr result (λ end. FailsToWriteLine end (W.contents writer.old) (W.contents writer.new)) }
 {
     let mut bytes = [0; HEADER_LENGTH];
     let size = read_header(reader, &mut progress.reads, &mut bytes)?;

@@ -3,7 +3,7 @@
 ghost use Rattle.std.specs.Prelude.{◌≡◌, ◌+◌, IfSome, IsTrue};
 ghost use Rattle.disk_core.specs.DiskImage.{reads};
 ghost use Rattle.disk_core.specs.Life.{IsQuiet};
-ghost use Rattle.archive_commands.specs.Progress.{AreListed, bytes_before, bytes_in, counted, hundredths, segment_bytes};
+ghost use Rattle.archive_commands.specs.Progress.{AreListed, bytes_before, bytes_of_files, counted, hundredths, segment_bytes};
 
 use crate::pace::Pace;
 use crate::screen::{Screen, Stage};
@@ -196,7 +196,7 @@ fn segment_length<D: Disk>(disk: &mut D, file: FileId) -> Option<u64>
 
 /// How many bytes these files have together, as far as a `u64` counts them.
 fn bytes_in(files: &[ListedFile]) -> u64
-    ensures { result ≡ counted (bytes_in files.now) }
+    ensures { result ≡ counted (bytes_of_files files.now) }
 {
     let mut total = 0u64;
     for listed in files {
@@ -221,7 +221,7 @@ fn bytes_before(file: FileId, files: &[ListedFile]) -> u64
 
 /// How many hundredths of the bytes of all these files lie before an offset in one of them, a hundred at most.
 fn percent_of(file: FileId, end: u64, files: &[ListedFile]) -> u128
-    ensures { result ≡ hundredths (counted (bytes_before file files.now) + end) (counted (bytes_in files.now)) }
+    ensures { result ≡ hundredths (counted (bytes_before file files.now) + end) (counted (bytes_of_files files.now)) }
 {
     let done = bytes_before(file, files) as u128 + end as u128;
     (done * 100 / (bytes_in(files) as u128).max(1)).min(100)

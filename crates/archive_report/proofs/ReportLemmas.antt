@@ -27,9 +27,9 @@ use Rattle.archive_view.specs.Verified.{HasVerified as WasVerified, VerifyAnswer
 use Rattle.archive_view.specs.Viewed.{desk_of, read_of}
 use Rattle.archive_view.specs.Asked.{Answers, HasAsked}
 use Rattle.archive_report.specs.Describing.{IsLookedOn}
-use Rattle.archive_report.specs.Viewing.{FailsToList, IsUnseenBy, IsUnviewedBy, inner}
+use Rattle.archive_report.specs.Viewing.{FailsToListViewed, IsUnseenBy, IsUnviewedBy, inner}
 use Rattle.archive_report.specs.declared.verify.Seen.{Seen}
-use Rattle.archive_report.specs.Verifying.{FailsToVerify, TellEach, Tells, VerifiesEach, seen_verifies}
+use Rattle.archive_report.specs.Verifying.{FailsToVerifyViewed, TellEach, Tells, VerifiesEach, seen_verifies}
 
 -- ---- a disk that is only read
 
@@ -121,17 +121,17 @@ module _ {D : Type 0} (life : D → Life) where
 -- ---- archives that are not seen
 
 module _ {D X : Type 0} (life : D → Life) (old : Life) (contents : Option (List ℕ)) (result : Result X (CommandFault D)) (fault : CommandFault D) (is : result ≡ Err fault) where
-  pub unlisted : IsUnviewedBy life old fault.disk fault.why → IfErr result (λ f. FailsToList life old f.disk f.why contents contents)
-  unlisted none = subst (λ (r : Result X (CommandFault D)). IfErr r (λ f. FailsToList life old f.disk f.why contents contents)) (sym is) (by fault.why none)
+  pub unlisted : IsUnviewedBy life old fault.disk fault.why → IfErr result (λ f. FailsToListViewed life old f.disk f.why contents contents)
+  unlisted none = subst (λ (r : Result X (CommandFault D)). IfErr r (λ f. FailsToListViewed life old f.disk f.why contents contents)) (sym is) (by fault.why none)
     where
-      by : (why : Stop) → IsUnviewedBy life old fault.disk why → FailsToList life old fault.disk why contents contents
+      by : (why : Stop) → IsUnviewedBy life old fault.disk why → FailsToListViewed life old fault.disk why contents contents
       by (stops.Refused refusal) none = (none, refl)
       by (stops.Cut end) none = absurd none
 
-  pub unverified : (asked : Option ℤ) → IsUnseenBy life asked old fault.disk fault.why → IfErr result (λ f. FailsToVerify life asked old f.disk f.why contents contents)
-  unverified asked none = subst (λ (r : Result X (CommandFault D)). IfErr r (λ f. FailsToVerify life asked old f.disk f.why contents contents)) (sym is) (by fault.why none)
+  pub unverified : (asked : Option ℤ) → IsUnseenBy life asked old fault.disk fault.why → IfErr result (λ f. FailsToVerifyViewed life asked old f.disk f.why contents contents)
+  unverified asked none = subst (λ (r : Result X (CommandFault D)). IfErr r (λ f. FailsToVerifyViewed life asked old f.disk f.why contents contents)) (sym is) (by fault.why none)
     where
-      by : (why : Stop) → IsUnseenBy life asked old fault.disk why → FailsToVerify life asked old fault.disk why contents contents
+      by : (why : Stop) → IsUnseenBy life asked old fault.disk why → FailsToVerifyViewed life asked old fault.disk why contents contents
       by (stops.Refused refusal) none = (none, refl)
       by (stops.Cut end) none = absurd none
 

@@ -53,7 +53,7 @@ module _ {D : Type 0} (life : D → Life) where
 
 module _ {D : Type 0} (life : D → Life) (asked : Option ℤ) where
   -- the archive was seen, and then each of its recordings, or the one that was asked for; behind that the disk was at most read
-  pub record HasVerified (old new : Life) (contents written : Option (List ℕ)) (verdict : Verdict) : Type 0 where
+  pub record HasVerifiedViewed (old new : Life) (contents written : Option (List ℕ)) (verdict : Verdict) : Type 0 where
     pub seen : ArchiveView D
     pub shown : ShowsDesk old (inner life seen) (desk_of seen)
     pub there : KnowsAsked asked (desk_of seen)
@@ -61,7 +61,7 @@ module _ {D : Type 0} (life : D → Life) (asked : Option ℤ) where
     pub verified : HasReported (VerifiesEach life) (ids_asked asked (desk_of seen)) seen last contents written verdict
     pub left : IsOnlyRead (inner life last) new
 
-  pub record HasVerifiedFirst (old new : Life) (contents written : Option (List ℕ)) (end : EarlyEnd) : Type 0 where
+  pub record HasVerifiedFirstViewed (old new : Life) (contents written : Option (List ℕ)) (end : EarlyEnd) : Type 0 where
     pub seen : ArchiveView D
     pub shown : ShowsDesk old (inner life seen) (desk_of seen)
     pub there : KnowsAsked asked (desk_of seen)
@@ -70,6 +70,6 @@ module _ {D : Type 0} (life : D → Life) (asked : Option ℤ) where
     pub left : IsOnlyRead (inner life last) new
 
   -- it was not seen, or lacks the recording that was asked for, and nothing is written; or it was
-  abbrev pub FailsToVerify : Life → D → Stop → Option (List ℕ) → Option (List ℕ) → Type 0
-  FailsToVerify old disk (Refused refusal) contents written = IsUnseenBy life asked old disk (Refused refusal) × (written ≡ contents)
-  FailsToVerify old disk (Cut end) contents written = HasVerifiedFirst old (life disk) contents written end
+  abbrev pub FailsToVerifyViewed : Life → D → Stop → Option (List ℕ) → Option (List ℕ) → Type 0
+  FailsToVerifyViewed old disk (Refused refusal) contents written = IsUnseenBy life asked old disk (Refused refusal) × (written ≡ contents)
+  FailsToVerifyViewed old disk (Cut end) contents written = HasVerifiedFirstViewed old (life disk) contents written end

@@ -40,7 +40,7 @@ pub record ShowsWithout (asked : Option ℤ) (old new : Life) (refusal : Refusal
   pub is : refusal ≡ UnknownRecording
 
 -- the desk was seen, and this is written of its recordings
-pub record HasListed (old new : Life) (contents written : Option (List ℕ)) : Type 0 where
+pub record HasListedViewed (old new : Life) (contents written : Option (List ℕ)) : Type 0 where
   pub desk : DeskState
   pub shown : ShowsDesk old new desk
   pub told : Appends contents written (reply_text (Recordings (listed (pos 0) (pos 1024) desk.register.recordings)))
@@ -69,6 +69,6 @@ module _ {D : Type 0} (life : D → Life) where
   IsUnseenBy asked old disk (Cut end) = ⊥
 
   -- it was not seen, and nothing is written; or it was
-  abbrev pub FailsToList : Life → D → Stop → Option (List ℕ) → Option (List ℕ) → Type 0
-  FailsToList old disk (Refused refusal) contents written = IsUnviewedBy old disk (Refused refusal) × (written ≡ contents)
-  FailsToList old disk (Cut end) contents written = HasNotListed old (life disk) contents written end
+  abbrev pub FailsToListViewed : Life → D → Stop → Option (List ℕ) → Option (List ℕ) → Type 0
+  FailsToListViewed old disk (Refused refusal) contents written = IsUnviewedBy old disk (Refused refusal) × (written ≡ contents)
+  FailsToListViewed old disk (Cut end) contents written = HasNotListed old (life disk) contents written end

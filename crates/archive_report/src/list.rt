@@ -1,7 +1,7 @@
 //! What `list --read-only` prints of an archive. docs/CONTROL.md, "Looking without a change".
 
 ghost use Rattle.std.specs.Prelude.{IfErr, IfOk};
-ghost use Rattle.archive_report.specs.Viewing.{FailsToList, HasListed};
+ghost use Rattle.archive_report.specs.Viewing.{FailsToListViewed, HasListedViewed};
 
 use crate::viewing::viewed;
 use archive_commands::{CommandFault, Stop, list_recordings};
@@ -21,9 +21,9 @@ pub fn list_view<W: Write, D: Disk, O: Observer>(
     writer: &mut W,
     observer: &mut O,
 ) -> Result<D, CommandFault<D>>
-    ensures listed { IfOk result (λ back. HasListed (D.life disk) (D.life back)
+    ensures listed { IfOk result (λ back. HasListedViewed (D.life disk) (D.life back)
         (W.contents writer.old) (W.contents writer.new)) }
-    ensures fault { IfErr result (λ fault. FailsToList D.life (D.life disk) fault.disk fault.why
+    ensures fault { IfErr result (λ fault. FailsToListViewed D.life (D.life disk) fault.disk fault.why
         (W.contents writer.old) (W.contents writer.new)) }
 {
     let view = viewed(alloc, disk, observer)?;

@@ -3,7 +3,7 @@
 ghost use Rattle.std.specs.Prelude.{◌≡◌, IfErr, IfOk, IsTrue};
 ghost use Rattle.archive_view.specs.ReadOnly.{IsOnlyRead};
 ghost use Rattle.archive_report.specs.Viewing.{inner};
-ghost use Rattle.archive_report.specs.Verifying.{FailsToVerify, HasVerified, desk_seen, seen_verifies};
+ghost use Rattle.archive_report.specs.Verifying.{FailsToVerifyViewed, HasVerifiedViewed, desk_seen, seen_verifies};
 
 use crate::viewing::viewed_with;
 use archive_commands::{CommandFault, Stop, Verdict, Verifiable, verify_recordings};
@@ -62,10 +62,10 @@ pub fn verify_view<W: Write, D: Disk, O: Observer>(
     writer: &mut W,
     observer: &mut O,
 ) -> Result<(D, Finding), CommandFault<D>>
-    ensures verified { IfOk result (λ found. HasVerified D.life asked (D.life disk) (D.life found.0)
+    ensures verified { IfOk result (λ found. HasVerifiedViewed D.life asked (D.life disk) (D.life found.0)
         (W.contents writer.old) (W.contents writer.new) found.1.verdict) }
     ensures moving { IfOk result (λ found. IsTrue found.1.is_moving → found.1.verdict ≡ Verdict.Refused) }
-    ensures fault { IfErr result (λ fault. FailsToVerify D.life asked (D.life disk) fault.disk fault.why
+    ensures fault { IfErr result (λ fault. FailsToVerifyViewed D.life asked (D.life disk) fault.disk fault.why
         (W.contents writer.old) (W.contents writer.new)) }
 {
     let view = viewed_with(alloc, disk, asked, observer)?;

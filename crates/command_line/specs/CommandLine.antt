@@ -109,6 +109,13 @@ stream_option = record (new_rule (codes "record")) {
 abbrev pub from_option : Rule
 from_option = record (new_rule (codes "from")) { long = Some (codes "from"); value_names = 1; action = Some Append }
 
+-- and of sendings
+abbrev pub send_to_option : Rule
+send_to_option = record (new_rule (codes "send-to")) { long = Some (codes "send-to"); value_names = 1; action = Some Append }
+
+abbrev pub send_on_option : Rule
+send_on_option = record (new_rule (codes "send-on")) { long = Some (codes "send-on"); value_names = 1 }
+
 -- `--segment-length`, from 65536 to 1073741824, which may be given
 abbrev pub segment_option : Rule
 segment_option = record (new_rule (codes "segment-length")) {
@@ -182,9 +189,13 @@ serve_app = with_rule (with_rule (with_rule (with_rule (with_rule (with_rule (wi
 abbrev pub consumers_app : App
 consumers_app = with_rule (with_rule (with_rule serve_app consumers_option) consumers_address_option) from_option
 
+-- and with those of sendings
+abbrev pub sends_app : App
+sends_app = with_rule (with_rule consumers_app send_to_option) send_on_option
+
 -- and with those of times
 abbrev pub times_app : App
-times_app = with_rule (with_rule consumers_app times_option) times_every_option
+times_app = with_rule (with_rule sends_app times_option) times_every_option
 
 -- a number of an i64 from 0 on, which has to be given
 abbrev pub number_word : Text → Rule
@@ -297,6 +308,10 @@ AreStreams rows streams = AreNumbers (unwrap_or (all_of (codes "record") rows) [
 abbrev pub AreNetworkTexts : List Row → List Text → Type 0
 AreNetworkTexts rows texts = unwrap_or (all_of (codes "from") rows) [] ≡ texts
 
+-- the texts of `--send-to`, in the order of the words
+abbrev pub AreSendTexts : List Row → List Text → Type 0
+AreSendTexts rows texts = unwrap_or (all_of (codes "send-to") rows) [] ≡ texts
+
 -- the words of `serve`
 pub record IsServing (rows : List Row) (words : ServeWords) : Type 0 where
   pub folder_is : first_of (codes "folder") rows ≡ Some words.folder.now
@@ -312,6 +327,8 @@ pub record IsServing (rows : List Row) (words : ServeWords) : Type 0 where
   pub consumers_on_is : first_of (codes "consumers-on") rows ≡ option_map (λ address. address.now) words.consumers_on
   pub streams_are : AreStreams rows words.streams.items
   pub networks_are : AreNetworkTexts rows (map (λ text. text.now) words.from.items)
+  pub sends_are : AreSendTexts rows (map (λ text. text.now) words.send_to.items)
+  pub send_on_is : first_of (codes "send-on") rows ≡ option_map (λ address. address.now) words.send_on
   pub segment_is : IsNumberIf (one_of (codes "segment-length") rows) words.segment_length
   pub quiet_is : IsFlag (one_of (codes "quiet") rows) words.is_quiet
   pub strict_is : IsFlag (one_of (codes "strict") rows) words.is_strict

@@ -3,7 +3,7 @@
 ghost use Rattle.std.specs.Prelude.{◌≡◌, ℤ, IfOk, List, MatchOption, codes, false, map};
 ghost use Rattle.clap.specs.Words.{found_of, rows_of, rule_of};
 ghost use Rattle.command_line.specs.declared.serving.ServeWords.{ServeWords};
-ghost use Rattle.command_line.specs.CommandLine.{AreNetworkTexts, AreNumbers, AreStreams, IsCommand, IsServing, address_option, clients_option, consumers_address_option, consumers_app, consumers_option, from_option, idle_option, metrics_option, name_option, port_option, segment_option, serve_app, settle_option, stream_option, times_app, times_every_option, times_option, window_option, word_app};
+ghost use Rattle.command_line.specs.CommandLine.{AreNetworkTexts, AreNumbers, AreSendTexts, AreStreams, IsCommand, IsServing, address_option, clients_option, consumers_address_option, consumers_app, consumers_option, from_option, idle_option, metrics_option, name_option, port_option, segment_option, send_on_option, send_to_option, sends_app, serve_app, settle_option, stream_option, times_app, times_every_option, times_option, window_option, word_app};
 
 use crate::command::{CHECKPOINTS_HELP, FOLDER_HELP, flag, required, waiting};
 use clap::builder::ValueParser;
@@ -38,6 +38,10 @@ pub struct ServeWords<'a> {
     pub streams: Vec<i32>,
     /// The networks that datagrams are taken from, in the order of the words, as they were given.
     pub from: Vec<&'a str>,
+    /// The networks that recordings may be sent to, in the order of the words, as they were given.
+    pub send_to: Vec<&'a str>,
+    /// The address that recordings are sent from, and perhaps a port, as it was given. None: no word names it.
+    pub send_on: Option<&'a str>,
     /// Bytes of a segment file of these recordings. None: no word names it.
     pub segment_length: Option<u32>,
     /// Whether standard error reports faults alone.
@@ -68,7 +72,7 @@ const SERVE_HELP: &str =
     "Records the datagrams of Aeron publications that come by UDP into the archive of a folder. It sends NAK frames for what is \
 missing. With `--aeron` it also sends status messages, which Aeron's media drivers wait for. Control lines come by TCP, one \
 connection after another or as many at a time as `--clients` says, and are answered as those of `run`. With `--aeron` or several clients \
-`follow` and `replays` are answered too: `replays` says which replays are open, and whose. The line `quit` ends the server. Clients \
+`follow` and `replays` are answered too: `replays` says which replays are open, and whose. With `--aeron` and `--send-to` the line `send` sends a recording as a publication, to a subscriber or to another server. The line `quit` ends the server. Clients \
 that only read may come to `--consumers`, also from other hosts. Standard error reports what happens. Control lines have no \
 authentication, so they come to 127.0.0.1 alone. The folder has to be on a local file system, and one process may have it open at a time.";
 
@@ -109,6 +113,14 @@ times, at most 64. It needs --aeron";
 const FROM_HELP: &str =
     "An IPv4 address, or a network such as 10.1.0.0/16, that datagrams are taken from; for several give it several times, at most \
 16. Without it they are taken from everywhere. It needs --aeron";
+
+const SEND_TO_HELP: &str =
+    "An IPv4 address, or a network such as 10.1.0.0/16, that the line `send` may send recordings to; for several give it several times, \
+at most 16. Without it none is sent. It needs --aeron";
+
+const SEND_ON_HELP: &str =
+    "The IPv4 address that recordings are sent from, and a port, as 10.0.0.1:40200; without it that of --receive-on, and any port. \
+It needs --send-to";
 
 const SEGMENT_HELP: &str =
     "The length of the segment files of these recordings, a power of two from 65536 to 1073741824; without it \
@@ -266,6 +278,29 @@ fn from<'a>(alloc: Global) -> Arg<'a>
         .help(FROM_HELP)
 }
 
+/// The option `--send-to`, a network, which may come several times.
+fn send_to<'a>(alloc: Global) -> Arg<'a>
+    ensures rule { rule_of result ≡ send_to_option }
+    ensures local { result.global ≡ false }
+{
+    Arg::new(alloc, "send-to")
+        .long("send-to")
+        .value_name("network")
+        .action(ArgAction::Append)
+        .help(SEND_TO_HELP)
+}
+
+/// The option `--send-on`, an address and perhaps a port.
+fn send_on<'a>(alloc: Global) -> Arg<'a>
+    ensures rule { rule_of result ≡ send_on_option }
+    ensures local { result.global ≡ false }
+{
+    Arg::new(alloc, "send-on")
+        .long("send-on")
+        .value_name("address")
+        .help(SEND_ON_HELP)
+}
+
 /// The option `--segment-length`, in bytes.
 fn segment_length<'a>(alloc: Global) -> Arg<'a>
     ensures rule { rule_of result ≡ segment_option }
@@ -335,7 +370,7 @@ fn serve_folder<'a>(alloc: Global) -> Result<Command<'a>, AllocError>
         .arg(required(alloc, "folder", FOLDER_HELP))
 }
 
-/// The command `serve` without the options of consumers, networks and times.
+/// The command `serve` without the options of consumers, networks, sendings and times.
 fn serve<'a>(alloc: Global) -> Result<Command<'a>, AllocError>
     ensures { IfOk result (IsCommand serve_app) }
 {
@@ -362,7 +397,7 @@ fn serve<'a>(alloc: Global) -> Result<Command<'a>, AllocError>
         .arg(waiting(alloc))
 }
 
-/// The command `serve` without the options of times.
+/// The command `serve` without the options of times and of sendings.
 fn serve_consumers<'a>(alloc: Global) -> Result<Command<'a>, AllocError>
     ensures { IfOk result (IsCommand consumers_app) }
 {
@@ -373,11 +408,19 @@ fn serve_consumers<'a>(alloc: Global) -> Result<Command<'a>, AllocError>
         .arg(from(alloc))
 }
 
+/// The command `serve` without the options of times, with those of sendings.
+fn serve_sends<'a>(alloc: Global) -> Result<Command<'a>, AllocError>
+    ensures { IfOk result (IsCommand sends_app) }
+{
+    let command = serve_consumers(alloc)?;
+    command.arg(send_to(alloc))?.arg(send_on(alloc))
+}
+
 /// The command `serve`.
 pub(crate) fn serve_times<'a>(alloc: Global) -> Result<Command<'a>, AllocError>
     ensures { IfOk result (IsCommand times_app) }
 {
-    let command = serve_consumers(alloc)?;
+    let command = serve_sends(alloc)?;
     command.arg(times(alloc))?.arg(times_every(alloc))
 }
 
@@ -391,7 +434,12 @@ pub(crate) fn served<'a>(
         (IsServing (rows_of (found_of own.now)))) }
 {
     match streams_of(alloc, own)? {
-        Some(streams) => Ok(words_of(own, streams, networks_of(alloc, own)?)),
+        Some(streams) => Ok(words_of(
+            own,
+            streams,
+            networks_of(alloc, own)?,
+            send_networks_of(alloc, own)?,
+        )),
         None => Ok(None),
     }
 }
@@ -401,6 +449,16 @@ fn networks_of<'a>(alloc: Global, own: &ArgMatches<'a>) -> Result<Vec<&'a str>, 
     ensures { IfOk result (λ texts. AreNetworkTexts (rows_of (found_of own.now)) (map (λ text. text.now) texts.items)) }
 {
     match own.get_strs("from") {
+        Some(texts) => Vec::from_slice(alloc, texts),
+        None => Ok(Vec::new(alloc)),
+    }
+}
+
+/// The texts of `--send-to` that matches hold, in their order.
+fn send_networks_of<'a>(alloc: Global, own: &ArgMatches<'a>) -> Result<Vec<&'a str>, AllocError>
+    ensures { IfOk result (λ texts. AreSendTexts (rows_of (found_of own.now)) (map (λ text. text.now) texts.items)) }
+{
+    match own.get_strs("send-to") {
         Some(texts) => Vec::from_slice(alloc, texts),
         None => Ok(Vec::new(alloc)),
     }
@@ -439,9 +497,11 @@ fn words_of<'a>(
     own: &ArgMatches<'a>,
     streams: Vec<i32>,
     from: Vec<&'a str>,
+    send_to: Vec<&'a str>,
 ) -> Option<ServeWords<'a>>
     requires streams { AreStreams (rows_of (found_of own.now)) streams.items }
     requires networks { AreNetworkTexts (rows_of (found_of own.now)) (map (λ text. text.now) from.items) }
+    requires sends { AreSendTexts (rows_of (found_of own.now)) (map (λ text. text.now) send_to.items) }
     ensures { MatchOption result
         ((words : ServeWords) → IsServing (rows_of (found_of own.now)) words → ⊥)
         (IsServing (rows_of (found_of own.now))) }
@@ -458,6 +518,7 @@ fn words_of<'a>(
     let clients = own.get_one::<u32>("clients");
     let consumers = own.get_one::<u32>("consumers");
     let consumers_on = own.get_str("consumers-on");
+    let send_on = own.get_str("send-on");
     let segment_length = own.get_one::<u32>("segment-length");
     let is_quiet = own.get_flag("quiet");
     let is_strict = own.get_flag("strict");
@@ -483,6 +544,8 @@ fn words_of<'a>(
         consumers_on,
         streams,
         from,
+        send_to,
+        send_on,
         segment_length,
         is_quiet,
         is_strict,

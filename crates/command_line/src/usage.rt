@@ -39,6 +39,18 @@ pub enum UsageError {
     Networks,
     /// A word of `--from` is no network.
     Network,
+    /// `--send-to` comes without `--aeron`.
+    SendToNeedsAeron,
+    /// `--send-to` comes too often.
+    SendNetworks,
+    /// A word of `--send-to` is no network.
+    SendNetwork,
+    /// The word of `--send-on` is no address.
+    SendAddress,
+    /// The word of `--send-on` is a multicast address.
+    SendMulticast,
+    /// `--send-on` comes without `--send-to`.
+    NeedsSendTo,
     /// Lines may not be sent at once.
     Lines,
     /// A line is `follow`, whose answer is bytes.
@@ -77,6 +89,18 @@ impl fmt::Display for UsageError {
             UsageError::Network => {
                 "--from wants an IPv4 address, or one and a number of bits, as 10.1.0.0/16"
             }
+            UsageError::SendToNeedsAeron => "--send-to needs --aeron",
+            UsageError::SendNetworks => "--send-to may be given at most 16 times",
+            UsageError::SendNetwork => {
+                "--send-to wants an IPv4 address, or one and a number of bits, as 10.1.0.0/16"
+            }
+            UsageError::SendAddress => {
+                "--send-on wants an IPv4 address, or one and a port, as 10.0.0.1:40200"
+            }
+            UsageError::SendMulticast => {
+                "--send-on wants an address of this machine, not a multicast address"
+            }
+            UsageError::NeedsSendTo => "--send-on needs --send-to",
             UsageError::Lines => "lines have no line feed, and with their ends at most 65536 bytes",
             UsageError::Follow => "follow is answered by bytes, and not by lines alone",
             UsageError::Until => "--until wants a line without a line feed",

@@ -36,7 +36,8 @@ module _ (n : ℕ) (line : List ℕ) (within : 10 ≤ n) where
   goes_on-front =
       ap₂ (λ p q. p || q) (starts-front n line (codes "recording ") within)
       (ap₂ (λ p q. p || q) (starts-front n line (codes "image ") (omega arith))
-      (ap₂ (λ p q. p || q) (starts-front n line (codes "frame ") (omega arith)) (starts-front n line (codes "open ") (omega arith))))
+      (ap₂ (λ p q. p || q) (starts-front n line (codes "frame ") (omega arith))
+      (ap₂ (λ p q. p || q) (starts-front n line (codes "open ") (omega arith)) (starts-front n line (codes "send ") (omega arith)))))
 
   pub is_refusal-front : is_refusal (take n line) ≡ is_refusal line
   is_refusal-front = starts-front n line (codes "error ") (omega arith)

@@ -6,11 +6,11 @@ use Rattle.control_client.specs.declared.answer.Verdict.{Verdict}
 use Rattle.control_client.specs.declared.answer.Verdict.TheVariants.{Answered, Refused, Unanswered}
 use Rattle.control_client.specs.Lines.{whole_lines}
 
--- the line of a recording, an image, a frame or an open replay: further lines of the same reply follow
+-- the line of a recording, an image, a frame, an open replay or a sending: further lines of the same reply follow
 abbrev pub goes_on : List ℕ → Bool
 goes_on line =
     starts_with nat_eq line (codes "recording ") || (starts_with nat_eq line (codes "image ") || (starts_with nat_eq line (codes "frame ")
-    || starts_with nat_eq line (codes "open ")))
+    || (starts_with nat_eq line (codes "open ") || starts_with nat_eq line (codes "send "))))
 
 -- The line is the last one of a reply to the line that was asked. The reply to `merge-take` has one line.
 abbrev pub ends_reply : List ℕ → List ℕ → Bool

@@ -3,7 +3,7 @@
 ghost use Rattle.std.specs.Prelude.{◌≡◌};
 ghost use Rattle.control_client.specs.Replies.{ends_reply, goes_on, is_refusal};
 
-/// Whether further lines of the same reply follow: the line of a recording, an image, a frame or an open replay.
+/// Whether further lines of the same reply follow: the line of a recording, an image, a frame, an open replay or a sending.
 fn goes_on(line: &[u8]) -> bool
     ensures { result ≡ goes_on line.now }
 {
@@ -11,6 +11,7 @@ fn goes_on(line: &[u8]) -> bool
         || line.starts_with(b"image ")
         || line.starts_with(b"frame ")
         || line.starts_with(b"open ")
+        || line.starts_with(b"send ")
 }
 
 /// Whether the line is the last one of a reply to the line that was asked.

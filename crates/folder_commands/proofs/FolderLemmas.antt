@@ -15,10 +15,10 @@ use Rattle.archive_commands.specs.declared.reports.Verdict.{Verdict}
 use Rattle.archive_commands.specs.declared.reports.Verdict.TheVariants as verdicts
 use Rattle.archive_commands.specs.declared.watched.Watched.{Watched}
 use Rattle.tool_core.specs.Archives.{HasCompacted}
-use Rattle.archive_commands.specs.Commands.{FailsToCompact, FailsToCreate, FailsToList, FailsToVerify, HasListed, HasVerified, IsCreated}
+use Rattle.archive_commands.specs.Commands.{FailsToCompact, FailsToCreate, FailsToList, FailsToVerify, HasListed, HasVerifiedOpened, IsCreated}
 use Rattle.folder_commands.specs.declared.status.Ending.{Ending}
 use Rattle.folder_commands.specs.declared.status.Ending.TheVariants.{Done}
-use Rattle.folder_commands.specs.Folders.{CompactsFolder, EndsAs, ListsFolder, MakesArchive, VerifiesFolder, ending_by}
+use Rattle.folder_commands.specs.Folders.{CompactsFolder, FolderEndsAs, ListsFolder, MakesArchive, VerifiesFolder, ending_by}
 use Rattle.folder_commands.specs.Status.{ending_of}
 
 -- the disk of a folder
@@ -32,27 +32,27 @@ begins_watched given disk watched begins is = ap host_life is ∙ begins
 -- ---- what it leaves
 
 module _ (IsDone HasFound : Life → Type 0) (IsStopped : Life → Stop → Type 0) (contents written : Option (List ℕ)) (left : Option Life) (new : Life) (is : left ≡ Some new) where
-  pub ends_done : IsDone new → EndsAs IsDone HasFound IsStopped contents written left Done
-  ends_done h = subst (λ l. EndsAs IsDone HasFound IsStopped contents written l Done) (sym is) h
+  pub ends_done : IsDone new → FolderEndsAs IsDone HasFound IsStopped contents written left Done
+  ends_done h = subst (λ l. FolderEndsAs IsDone HasFound IsStopped contents written l Done) (sym is) h
 
-  stopped_so : (why : Stop) → IsStopped new why → EndsAs IsDone HasFound IsStopped contents written (Some new) (ending_of why)
+  stopped_so : (why : Stop) → IsStopped new why → FolderEndsAs IsDone HasFound IsStopped contents written (Some new) (ending_of why)
   stopped_so (stops.Refused refusal) h = h
   stopped_so (stops.Cut end) h = h
 
-  pub ends_stopped : (why : Stop) (ending : Ending) → ending ≡ ending_of why → IsStopped new why → EndsAs IsDone HasFound IsStopped contents written left ending
+  pub ends_stopped : (why : Stop) (ending : Ending) → ending ≡ ending_of why → IsStopped new why → FolderEndsAs IsDone HasFound IsStopped contents written left ending
   ends_stopped why ending so h =
-      subst (λ l. EndsAs IsDone HasFound IsStopped contents written l ending) (sym is) (subst (EndsAs IsDone HasFound IsStopped contents written (Some new)) (sym so) (stopped_so why h))
+      subst (λ l. FolderEndsAs IsDone HasFound IsStopped contents written l ending) (sym is) (subst (FolderEndsAs IsDone HasFound IsStopped contents written (Some new)) (sym so) (stopped_so why h))
 
 -- by what was found
 module _ (IsFound : Life → Verdict → Type 0) (IsStopped : Life → Stop → Type 0) (contents written : Option (List ℕ)) (left : Option Life) (new : Life) (is : left ≡ Some new) where
-  judged_so : (verdict : Verdict) → IsFound new verdict → EndsAs (λ n. IsFound n verdicts.Whole) (λ n. IsFound n verdicts.Refused) IsStopped contents written (Some new) (ending_by verdict)
+  judged_so : (verdict : Verdict) → IsFound new verdict → FolderEndsAs (λ n. IsFound n verdicts.Whole) (λ n. IsFound n verdicts.Refused) IsStopped contents written (Some new) (ending_by verdict)
   judged_so verdicts.Whole h = h
   judged_so verdicts.Refused h = h
 
-  pub ends_judged : (verdict : Verdict) (ending : Ending) → ending ≡ ending_by verdict → IsFound new verdict → EndsAs (λ n. IsFound n verdicts.Whole) (λ n. IsFound n verdicts.Refused) IsStopped contents written left ending
+  pub ends_judged : (verdict : Verdict) (ending : Ending) → ending ≡ ending_by verdict → IsFound new verdict → FolderEndsAs (λ n. IsFound n verdicts.Whole) (λ n. IsFound n verdicts.Refused) IsStopped contents written left ending
   ends_judged verdict ending so h =
-      subst (λ l. EndsAs (λ n. IsFound n verdicts.Whole) (λ n. IsFound n verdicts.Refused) IsStopped contents written l ending) (sym is)
-      (subst (EndsAs (λ n. IsFound n verdicts.Whole) (λ n. IsFound n verdicts.Refused) IsStopped contents written (Some new)) (sym so) (judged_so verdict h))
+      subst (λ l. FolderEndsAs (λ n. IsFound n verdicts.Whole) (λ n. IsFound n verdicts.Refused) IsStopped contents written l ending) (sym is)
+      (subst (FolderEndsAs (λ n. IsFound n verdicts.Whole) (λ n. IsFound n verdicts.Refused) IsStopped contents written (Some new)) (sym so) (judged_so verdict h))
 
 -- ---- the commands
 
@@ -79,10 +79,10 @@ module _ (given : Given) (contents written : Option (List ℕ)) (left : Option L
         why ending so (subst (λ l. FailsToCompact l new why contents written) begins h)
 
     -- with a disk there is no other ending of `create`
-    made_so : (limit : ℕ) (ending : Ending) → EndsAs (λ n. IsCreated limit (life_from given) n × Appends contents written (codes "created\n")) (λ n. ⊥) (λ n why. FailsToCreate limit (life_from given) n why contents written) contents written left ending → MakesArchive given limit contents written left ending
+    made_so : (limit : ℕ) (ending : Ending) → FolderEndsAs (λ n. IsCreated limit (life_from given) n × Appends contents written (codes "created\n")) (λ n. ⊥) (λ n why. FailsToCreate limit (life_from given) n why contents written) contents written left ending → MakesArchive given limit contents written left ending
     made_so limit ending h =
         subst (λ l. MakesArchive given limit contents written l ending) (sym is)
-        (subst (λ l. EndsAs (λ n. IsCreated limit (life_from given) n × Appends contents written (codes "created\n")) (λ n. ⊥) (λ n why. FailsToCreate limit (life_from given) n why contents written) contents written l ending) is h)
+        (subst (λ l. FolderEndsAs (λ n. IsCreated limit (life_from given) n × Appends contents written (codes "created\n")) (λ n. ⊥) (λ n why. FailsToCreate limit (life_from given) n why contents written) contents written l ending) is h)
 
     pub create_done : (limit : ℕ) → IsCreated limit old new → Appends contents written (codes "created\n") → MakesArchive given limit contents written left Done
     create_done limit h told =
@@ -97,12 +97,12 @@ module _ (given : Given) (contents written : Option (List ℕ)) (left : Option L
         why ending so (subst (λ l. FailsToCreate limit l new why contents written) begins h))
 
   module _ (quiet : IsQuiet (life_from given) old) where
-    pub verify_done : (asked : Option ℤ) (verdict : Verdict) (ending : Ending) → ending ≡ ending_by verdict → HasVerified asked old new contents written verdict → VerifiesFolder given asked contents written left ending
+    pub verify_done : (asked : Option ℤ) (verdict : Verdict) (ending : Ending) → ending ≡ ending_by verdict → HasVerifiedOpened asked old new contents written verdict → VerifiesFolder given asked contents written left ending
     verify_done asked verdict ending so h =
-        ends_judged (λ n v. (o : Life) × IsQuiet (life_from given) o × HasVerified asked o n contents written v) (λ n why. (o : Life) × IsQuiet (life_from given) o × FailsToVerify asked o n why contents written) contents written left new is
+        ends_judged (λ n v. (o : Life) × IsQuiet (life_from given) o × HasVerifiedOpened asked o n contents written v) (λ n why. (o : Life) × IsQuiet (life_from given) o × FailsToVerify asked o n why contents written) contents written left new is
         verdict ending so (old, quiet, h)
 
     pub verify_stopped : (asked : Option ℤ) (why : Stop) (ending : Ending) → ending ≡ ending_of why → FailsToVerify asked old new why contents written → VerifiesFolder given asked contents written left ending
     verify_stopped asked why ending so h =
-        ends_stopped (λ n. (o : Life) × IsQuiet (life_from given) o × HasVerified asked o n contents written verdicts.Whole) (λ n. (o : Life) × IsQuiet (life_from given) o × HasVerified asked o n contents written verdicts.Refused) (λ n why. (o : Life) × IsQuiet (life_from given) o × FailsToVerify asked o n why contents written) contents written left new is
+        ends_stopped (λ n. (o : Life) × IsQuiet (life_from given) o × HasVerifiedOpened asked o n contents written verdicts.Whole) (λ n. (o : Life) × IsQuiet (life_from given) o × HasVerifiedOpened asked o n contents written verdicts.Refused) (λ n why. (o : Life) × IsQuiet (life_from given) o × FailsToVerify asked o n why contents written) contents written left new is
         why ending so (old, quiet, h)

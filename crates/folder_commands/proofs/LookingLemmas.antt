@@ -11,8 +11,8 @@ use Rattle.archive_commands.specs.declared.reports.Verdict.TheVariants as verdic
 use Rattle.archive_commands.specs.declared.watched.Watched.{Watched}
 use Rattle.archive_report.specs.declared.form.Form.{Form}
 use Rattle.archive_report.specs.Describing.{FailsToDescribe, HasDescribed}
-use Rattle.archive_report.specs.Verifying.{FailsToVerify, HasVerified}
-use Rattle.archive_report.specs.Viewing.{FailsToList, HasListed}
+use Rattle.archive_report.specs.Verifying.{FailsToVerifyViewed, HasVerifiedViewed}
+use Rattle.archive_report.specs.Viewing.{FailsToListViewed, HasListedViewed}
 use Rattle.folder_commands.specs.declared.status.Ending.{Ending}
 use Rattle.folder_commands.specs.declared.status.Ending.TheVariants.{Done}
 use Rattle.folder_commands.specs.Folders.{ending_by}
@@ -30,15 +30,15 @@ looks_watched given disk watched begins is = ap folder_life is ∙ begins
 
 module _ (given : Given) (contents written : Option (List ℕ)) (left : Option Life) (new : Life) (is : left ≡ Some new) (old : Life) where
   module _ (begins : old ≡ life_from given) where
-    pub look_listed : HasListed old new contents written → ListsAsItStands given contents written left Done
+    pub look_listed : HasListedViewed old new contents written → ListsAsItStands given contents written left Done
     look_listed h =
-        ends_done (λ n. HasListed (life_from given) n contents written) (λ n. ⊥) (λ n why. FailsToList itself (life_from given) n why contents written) contents written left new is
-        (subst (λ l. HasListed l new contents written) begins h)
+        ends_done (λ n. HasListedViewed (life_from given) n contents written) (λ n. ⊥) (λ n why. FailsToListViewed itself (life_from given) n why contents written) contents written left new is
+        (subst (λ l. HasListedViewed l new contents written) begins h)
 
-    pub look_unlisted : (why : Stop) (ending : Ending) → ending ≡ ending_of why → FailsToList itself old new why contents written → ListsAsItStands given contents written left ending
+    pub look_unlisted : (why : Stop) (ending : Ending) → ending ≡ ending_of why → FailsToListViewed itself old new why contents written → ListsAsItStands given contents written left ending
     look_unlisted why ending so h =
-        ends_stopped (λ n. HasListed (life_from given) n contents written) (λ n. ⊥) (λ n why. FailsToList itself (life_from given) n why contents written) contents written left new is
-        why ending so (subst (λ l. FailsToList itself l new why contents written) begins h)
+        ends_stopped (λ n. HasListedViewed (life_from given) n contents written) (λ n. ⊥) (λ n why. FailsToListViewed itself (life_from given) n why contents written) contents written left new is
+        why ending so (subst (λ l. FailsToListViewed itself l new why contents written) begins h)
 
     pub describe_done : (one : Option ℤ) (json : Bool) (form : Form) → form ≡ form_of json → HasDescribed one old new form contents written → DescribesFolder given one json contents written left Done
     describe_done one json form asked h =
@@ -51,12 +51,12 @@ module _ (given : Given) (contents written : Option (List ℕ)) (left : Option L
         why ending so (subst (λ l. FailsToDescribe itself one l new why contents written) begins h)
 
   module _ (quiet : IsQuiet (life_from given) old) where
-    pub look_verified : (one : Option ℤ) (verdict : Verdict) (ending : Ending) → ending ≡ ending_by verdict → HasVerified itself one old new contents written verdict → VerifiesAsItStands given one contents written left ending
+    pub look_verified : (one : Option ℤ) (verdict : Verdict) (ending : Ending) → ending ≡ ending_by verdict → HasVerifiedViewed itself one old new contents written verdict → VerifiesAsItStands given one contents written left ending
     look_verified one verdict ending so h =
-        ends_judged (λ n v. (o : Life) × IsQuiet (life_from given) o × HasVerified itself one o n contents written v) (λ n why. (o : Life) × IsQuiet (life_from given) o × FailsToVerify itself one o n why contents written) contents written left new is
+        ends_judged (λ n v. (o : Life) × IsQuiet (life_from given) o × HasVerifiedViewed itself one o n contents written v) (λ n why. (o : Life) × IsQuiet (life_from given) o × FailsToVerifyViewed itself one o n why contents written) contents written left new is
         verdict ending so (old, quiet, h)
 
-    pub look_unverified : (one : Option ℤ) (why : Stop) (ending : Ending) → ending ≡ ending_of why → FailsToVerify itself one old new why contents written → VerifiesAsItStands given one contents written left ending
+    pub look_unverified : (one : Option ℤ) (why : Stop) (ending : Ending) → ending ≡ ending_of why → FailsToVerifyViewed itself one old new why contents written → VerifiesAsItStands given one contents written left ending
     look_unverified one why ending so h =
-        ends_stopped (λ n. (o : Life) × IsQuiet (life_from given) o × HasVerified itself one o n contents written verdicts.Whole) (λ n. (o : Life) × IsQuiet (life_from given) o × HasVerified itself one o n contents written verdicts.Refused) (λ n why. (o : Life) × IsQuiet (life_from given) o × FailsToVerify itself one o n why contents written) contents written left new is
+        ends_stopped (λ n. (o : Life) × IsQuiet (life_from given) o × HasVerifiedViewed itself one o n contents written verdicts.Whole) (λ n. (o : Life) × IsQuiet (life_from given) o × HasVerifiedViewed itself one o n contents written verdicts.Refused) (λ n why. (o : Life) × IsQuiet (life_from given) o × FailsToVerifyViewed itself one o n why contents written) contents written left new is
         why ending so (old, quiet, h)

@@ -25,7 +25,8 @@ module _ (given : Given) (words : ServeWords) (looked : Option Life) (receiver :
   are_right (inr (inr (inr (inl bad)))) = bad options.segment_length asked.segments
   are_right (inr (inr (inr (inr (inl bad))))) = bad options.makes_checkpoints asked.checkpoints
   are_right (inr (inr (inr (inr (inr (inl bad)))))) = bad asked.named
-  are_right (inr (inr (inr (inr (inr (inr bad)))))) = bad options.networks asked.networks
+  are_right (inr (inr (inr (inr (inr (inr (inl bad))))))) = bad options.networks asked.networks
+  are_right (inr (inr (inr (inr (inr (inr (inr bad))))))) = bad options.send_to asked.sends
 
   pub not_opened : (ending : Ending) → IsUnopenedFolder ending → ServesFolder given words looked None ending
   not_opened ending (fault, is) = subst (ServesFolder given words looked None) (sym is) are_right

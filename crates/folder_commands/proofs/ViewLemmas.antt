@@ -8,8 +8,8 @@ use Rattle.archive_commands.specs.declared.commands.Stop.TheVariants as stops
 use Rattle.archive_commands.specs.declared.reports.Verdict.{Verdict}
 use Rattle.archive_report.specs.ArchiveView.{ArchiveView}
 use Rattle.archive_report.specs.Describing.{FailsToDescribe}
-use Rattle.archive_report.specs.Verifying.{FailsToVerify, HasVerified, VerifiesEach}
-use Rattle.archive_report.specs.Viewing.{FailsToList}
+use Rattle.archive_report.specs.Verifying.{FailsToVerifyViewed, HasVerifiedViewed, VerifiesEach}
+use Rattle.archive_report.specs.Viewing.{FailsToListViewed}
 use Rattle.folder_commands.specs.Looking.{itself}
 
 module _ {D : Type 0} (life : D → Life) where
@@ -21,7 +21,7 @@ module _ {D : Type 0} (life : D → Life) where
     log = view.log;
   }
 
-  pub view_unlisted : (old : Life) (contents written : Option (List ℕ)) (disk : D) (why : Stop) → FailsToList life old disk why contents written → FailsToList itself old (life disk) why contents written
+  pub view_unlisted : (old : Life) (contents written : Option (List ℕ)) (disk : D) (why : Stop) → FailsToListViewed life old disk why contents written → FailsToListViewed itself old (life disk) why contents written
   view_unlisted old contents written disk (stops.Refused refusal) h = h
   view_unlisted old contents written disk (stops.Cut end) h = h
 
@@ -32,7 +32,7 @@ module _ {D : Type 0} (life : D → Life) where
   each : {old new : ArchiveView D} {ids : List ℤ} {outcomes : List (Result Reply Refusal)} → VerifiesEach life old new ids outcomes → VerifiesEach itself (bare old) (bare new) ids outcomes
   each h = record { inside = h.inside; same = h.same; desk = h.desk; total = h.total; each = h.each }
 
-  pub view_verified : {asked : Option ℤ} {old new : Life} {contents written : Option (List ℕ)} {verdict : Verdict} → HasVerified life asked old new contents written verdict → HasVerified itself asked old new contents written verdict
+  pub view_verified : {asked : Option ℤ} {old new : Life} {contents written : Option (List ℕ)} {verdict : Verdict} → HasVerifiedViewed life asked old new contents written verdict → HasVerifiedViewed itself asked old new contents written verdict
   view_verified h = record {
     seen = bare h.seen;
     shown = h.shown;
@@ -42,7 +42,7 @@ module _ {D : Type 0} (life : D → Life) where
     left = h.left;
   }
 
-  pub view_unverified : (asked : Option ℤ) (old : Life) (contents written : Option (List ℕ)) (disk : D) (why : Stop) → FailsToVerify life asked old disk why contents written → FailsToVerify itself asked old (life disk) why contents written
+  pub view_unverified : (asked : Option ℤ) (old : Life) (contents written : Option (List ℕ)) (disk : D) (why : Stop) → FailsToVerifyViewed life asked old disk why contents written → FailsToVerifyViewed itself asked old (life disk) why contents written
   view_unverified asked old contents written disk (stops.Refused refusal) h = h
   view_unverified asked old contents written disk (stops.Cut end) h = record {
     seen = bare h.seen;

@@ -15,7 +15,7 @@ use Rattle.archive_commands.specs.declared.reports.Verdict.{Verdict}
 use Rattle.archive_commands.specs.declared.reports.Verdict.TheVariants as verdicts
 use Rattle.tool_core.specs.Answering.{EndsEarly}
 use Rattle.tool_core.specs.Archives.{HasCompacted, IsUnopened}
-use Rattle.archive_commands.specs.Commands.{FailsToCompact, FailsToCreate, FailsToList, FailsToVerify, HasListed, HasVerified, IsCreated}
+use Rattle.archive_commands.specs.Commands.{FailsToCompact, FailsToCreate, FailsToList, FailsToVerify, HasListed, HasVerifiedOpened, IsCreated}
 use Rattle.archive_commands.specs.FrameLines.{IsListing, Lists, ListsSome}
 use Rattle.tool_core.specs.CheckpointedScript.{IsScriptOfFirstWhere, IsScriptWhere, IsTranscriptOfFirstWhere, IsTranscriptWhere}
 use Rattle.tool_core.specs.Script.{Begins}
@@ -46,20 +46,20 @@ IsUnopenedFolder ending = (fault : OpenFault) × (ending ≡ Unopened fault)
 -- How a command over a folder ends: done; by damage that it found and told; or stopped. Each is said of the life of its folder up
 -- to its closing. Or the folder was not opened, and then nothing is left and nothing is written.
 module _ (IsDone HasFound : Life → Type 0) (IsStopped : Life → Stop → Type 0) (contents written : Option (List ℕ)) where
-  abbrev pub EndsAs : Option Life → Ending → Type 0
-  EndsAs (Some new) Done = IsDone new
-  EndsAs (Some new) FoundDamage = HasFound new
-  EndsAs (Some new) (Refused refusal) = IsStopped new (stops.Refused refusal)
-  EndsAs (Some new) (Cut end) = IsStopped new (stops.Cut end)
-  EndsAs None (Unopened fault) = written ≡ contents
-  EndsAs left ending = ⊥
+  abbrev pub FolderEndsAs : Option Life → Ending → Type 0
+  FolderEndsAs (Some new) Done = IsDone new
+  FolderEndsAs (Some new) FoundDamage = HasFound new
+  FolderEndsAs (Some new) (Refused refusal) = IsStopped new (stops.Refused refusal)
+  FolderEndsAs (Some new) (Cut end) = IsStopped new (stops.Cut end)
+  FolderEndsAs None (Unopened fault) = written ≡ contents
+  FolderEndsAs left ending = ⊥
 
 module _ (given : Given) where
   -- ---- an archive in a folder
 
   -- `list`: the archive of these files was opened, and its recordings are written
   abbrev pub ListsFolder : Option (List ℕ) → Option (List ℕ) → Option Life → Ending → Type 0
-  ListsFolder contents written = EndsAs
+  ListsFolder contents written = FolderEndsAs
       (λ new. HasListed (life_from given) new contents written)
       (λ new. ⊥)
       (λ new why. FailsToList (life_from given) new why contents written)
@@ -68,9 +68,9 @@ module _ (given : Given) where
   -- `verify`: behind at most a listing of its files each of its recordings was verified, or the one that was asked for, and the
   -- answers are written; damage is found where one is no reply
   abbrev pub VerifiesFolder : Option ℤ → Option (List ℕ) → Option (List ℕ) → Option Life → Ending → Type 0
-  VerifiesFolder asked contents written = EndsAs
-      (λ new. (old : Life) × IsQuiet (life_from given) old × HasVerified asked old new contents written verdicts.Whole)
-      (λ new. (old : Life) × IsQuiet (life_from given) old × HasVerified asked old new contents written verdicts.Refused)
+  VerifiesFolder asked contents written = FolderEndsAs
+      (λ new. (old : Life) × IsQuiet (life_from given) old × HasVerifiedOpened asked old new contents written verdicts.Whole)
+      (λ new. (old : Life) × IsQuiet (life_from given) old × HasVerifiedOpened asked old new contents written verdicts.Refused)
       (λ new why. (old : Life) × IsQuiet (life_from given) old × FailsToVerify asked old new why contents written)
       contents written
 
@@ -78,7 +78,7 @@ module _ (given : Given) where
   -- and then nothing is left and nothing is written
   abbrev pub MakesArchive : ℕ → Option (List ℕ) → Option (List ℕ) → Option Life → Ending → Type 0
   MakesArchive limit contents written None (Refused DeviceFault) = written ≡ contents
-  MakesArchive limit contents written left ending = EndsAs
+  MakesArchive limit contents written left ending = FolderEndsAs
       (λ new. IsCreated limit (life_from given) new × Appends contents written (codes "created\n"))
       (λ new. ⊥)
       (λ new why. FailsToCreate limit (life_from given) new why contents written)
@@ -86,7 +86,7 @@ module _ (given : Given) where
 
   -- `compact`: the archive was opened, closed, and its catalogue written anew
   abbrev pub CompactsFolder : Option (List ℕ) → Option (List ℕ) → Option Life → Ending → Type 0
-  CompactsFolder contents written = EndsAs
+  CompactsFolder contents written = FolderEndsAs
       (λ new. HasCompacted (life_from given) new × Appends contents written (codes "compacted\n"))
       (λ new. ⊥)
       (λ new why. FailsToCompact (life_from given) new why contents written)

@@ -15,11 +15,11 @@ use Rattle.archive_report.specs.declared.form.Form.{Form}
 use Rattle.archive_report.specs.declared.form.Form.TheVariants.{Page, Json}
 use Rattle.archive_report.specs.Describing.{FailsToDescribe, HasDescribed}
 use Rattle.archive_report.specs.Exported.{FailsToExportFrom, HasExportedFrom}
-use Rattle.archive_report.specs.Verifying.{FailsToVerify, HasVerified}
-use Rattle.archive_report.specs.Viewing.{FailsToList, HasListed}
+use Rattle.archive_report.specs.Verifying.{FailsToVerifyViewed, HasVerifiedViewed}
+use Rattle.archive_report.specs.Viewing.{FailsToListViewed, HasListedViewed}
 use Rattle.folder_commands.specs.declared.status.Ending.{Ending}
 use Rattle.folder_commands.specs.declared.status.Ending.TheVariants.{Done, Cut, Refused, Unopened}
-use Rattle.folder_commands.specs.Folders.{EndsAs}
+use Rattle.folder_commands.specs.Folders.{FolderEndsAs}
 use Rattle.folder_commands.specs.Status.{ending_of}
 
 -- A disk of which its life alone is seen.
@@ -34,25 +34,25 @@ form_of false = Page
 module _ (given : Given) where
   -- `list --read-only`: the archive of these files was seen, and its recordings are written
   abbrev pub ListsAsItStands : Option (List ℕ) → Option (List ℕ) → Option Life → Ending → Type 0
-  ListsAsItStands contents written = EndsAs
-      (λ new. HasListed (life_from given) new contents written)
+  ListsAsItStands contents written = FolderEndsAs
+      (λ new. HasListedViewed (life_from given) new contents written)
       (λ new. ⊥)
-      (λ new why. FailsToList itself (life_from given) new why contents written)
+      (λ new why. FailsToListViewed itself (life_from given) new why contents written)
       contents written
 
   -- `verify --read-only`: behind at most a listing of its files each of its recordings was verified, or the one that was asked for,
   -- and the answers are written
   abbrev pub VerifiesAsItStands : Option ℤ → Option (List ℕ) → Option (List ℕ) → Option Life → Ending → Type 0
-  VerifiesAsItStands asked contents written = EndsAs
-      (λ new. (old : Life) × IsQuiet (life_from given) old × HasVerified itself asked old new contents written verdicts.Whole)
-      (λ new. (old : Life) × IsQuiet (life_from given) old × HasVerified itself asked old new contents written verdicts.Refused)
-      (λ new why. (old : Life) × IsQuiet (life_from given) old × FailsToVerify itself asked old new why contents written)
+  VerifiesAsItStands asked contents written = FolderEndsAs
+      (λ new. (old : Life) × IsQuiet (life_from given) old × HasVerifiedViewed itself asked old new contents written verdicts.Whole)
+      (λ new. (old : Life) × IsQuiet (life_from given) old × HasVerifiedViewed itself asked old new contents written verdicts.Refused)
+      (λ new why. (old : Life) × IsQuiet (life_from given) old × FailsToVerifyViewed itself asked old new why contents written)
       contents written
 
   -- `describe`: the archive of these files was seen, and the page on it, or on the recording that was asked for, is written, or the
   -- document with `--json`
   abbrev pub DescribesFolder : Option ℤ → Bool → Option (List ℕ) → Option (List ℕ) → Option Life → Ending → Type 0
-  DescribesFolder asked json contents written = EndsAs
+  DescribesFolder asked json contents written = FolderEndsAs
       (λ new. HasDescribed asked (life_from given) new (form_of json) contents written)
       (λ new. ⊥)
       (λ new why. FailsToDescribe itself asked (life_from given) new why contents written)

@@ -1,4 +1,4 @@
--- The networks that `--from` names: docs/SERVING.md, "How to run it".
+-- The networks that `--from` and `--send-to` name: docs/SERVING.md, "How to run it" and "Send a recording".
 use Rattle.std.specs.Prelude.{◌≡◌, ◌≤◌, ◌<◌, ◌==◌, ℕ, nat_lt, Bool, true, false, if◌then◌else◌, List, [], length, slice_get, slice_index_or, Option, None, Some}
 use Rattle.std.specs.Borrow.{Bor}
 use Rattle.std.specs.List.{after_first, before_first, position_or_len}
@@ -47,7 +47,7 @@ pub record AreNetworks (texts : List (Bor (List ℕ))) (networks : Networks) : T
   pub few : length texts ≤ 16
   pub each : (i : ℕ) → i < 16 → IsNetworkAt (slice_get texts i) (slice_index_or networks.networks i None)
 
--- `--aeron` (set or not) and these texts of `--from` go together: without it there is none
+-- `--aeron` (set or not) and these texts of `--from` or `--send-to` go together: without it there is none
 abbrev pub MayNameNetworks : Bool → List (Bor (List ℕ)) → Type 0
 MayNameNetworks true texts = Unit {0}
 MayNameNetworks false texts = texts ≡ []
@@ -60,3 +60,11 @@ module _ (words : ServeWords) where
   -- what they say of networks is wrong
   abbrev pub HasBadNetworks : Type 0
   HasBadNetworks = (networks : Networks) → HasNetworks networks → ⊥
+
+  -- the words name these networks that recordings may be sent to
+  abbrev pub HasSendNetworks : Networks → Type 0
+  HasSendNetworks networks = MayNameNetworks words.is_aeron words.send_to.items × AreNetworks words.send_to.items networks
+
+  -- what they say of these is wrong
+  abbrev pub HasBadSendNetworks : Type 0
+  HasBadSendNetworks = (networks : Networks) → HasSendNetworks networks → ⊥

@@ -4,7 +4,9 @@ use Rattle.std.specs.Borrow.{Bor}
 use Rattle.std.specs.Int.{is_power_of_two}
 use Rattle.std.specs.List.{list_all}
 use Rattle.std.specs.Net.Addr.{IsMulticastV4}
-use Rattle.std.specs.Net.Grammar.{IsIpv4Text}
+use Rattle.std.specs.Net.Grammar.{IsIpv4Text, IsSocketV4Text}
+use Rattle.std.specs.Net.Socket.{v4_ip}
+use Rattle.std.specs.declared.net.socket_addr.SocketAddrV4.{SocketAddrV4}
 use Rattle.std.specs.declared.net.ipv4_addr.Ipv4Addr.{Ipv4Addr}
 use Rattle.clap.specs.declared.error.ErrorKind.TheVariants.{ValueValidation}
 use Rattle.frame_core.specs.declared.refusal.Refusal.TheVariants.{DeviceFault, NotCatalogue}
@@ -23,7 +25,7 @@ use Rattle.folder_commands.specs.declared.why.Why.{Why}
 use Rattle.folder_commands.specs.declared.why.Why.TheVariants.{Usage}
 use Rattle.folder_commands.specs.declared.status.Ending.{Ending}
 use Rattle.folder_commands.specs.Hidden.{MayHideEntries}
-use Rattle.folder_commands.specs.Networks.{HasBadNetworks, HasNetworks}
+use Rattle.folder_commands.specs.Networks.{HasBadNetworks, HasBadSendNetworks, HasNetworks, HasSendNetworks}
 use Rattle.folder_commands.specs.declared.status.Ending.TheVariants.{Done, Cut, Refused, Stuck, Hidden, Unopened, NoCommand, Failed}
 
 -- ---- the words
@@ -45,6 +47,16 @@ IsNoConsumersEnd None None = ⊥
 IsNoConsumersEnd None (Some address) = Unit {0}
 IsNoConsumersEnd (Some port) None = 65535 < port
 IsNoConsumersEnd (Some port) (Some address) = IsNoAddress address.now ⊎ (65535 < port)
+
+-- the text is no IPv4 address of one machine, with a port or alone
+abbrev pub IsNoSendAddress : List ℕ → Type 0
+IsNoSendAddress text = ((address : SocketAddrV4) → IsSocketV4Text text address → IsMulticastV4 (v4_ip address)) × IsNoAddress text
+
+-- what `--send-on` (given or not) says is wrong, next to these texts of `--send-to`: it comes without one, or is no such address
+abbrev pub IsNoSendEnd : List (Bor (List ℕ)) → Option (Bor (List ℕ)) → Type 0
+IsNoSendEnd texts None = ⊥
+IsNoSendEnd [] (Some address) = Unit {0}
+IsNoSendEnd (text ∷ texts) (Some address) = IsNoSendAddress address.now
 
 -- a receiver window that a server can have, in bytes: a multiple of 32, from 4,096 to 1,048,576
 abbrev pub IsReceiverWindow : ℕ → Type 0
@@ -129,7 +141,7 @@ module _ (words : ServeWords) where
 
   -- what they say of a receiver window, of streams, of segments, of checkpoints, of a name or of networks is wrong
   abbrev pub HasBadOptions : Type 0
-  HasBadOptions = HasBadWindow ⊎ HasBadStreams ⊎ HasBadSegments ⊎ HasBadCheckpoints ⊎ HasBadName ⊎ HasBadNetworks words
+  HasBadOptions = HasBadWindow ⊎ HasBadStreams ⊎ HasBadSegments ⊎ HasBadCheckpoints ⊎ HasBadName ⊎ HasBadNetworks words ⊎ HasBadSendNetworks words
 
   -- the options of a server are those of the words, with this receiver's number
   pub record AreOptions (receiver : ℤ) (options : ServeOptions) : Type 0 where
@@ -141,6 +153,7 @@ module _ (words : ServeWords) where
     pub may_record : RecordsStreams
     pub streams : options.streams.now ≡ words.streams.items
     pub networks : HasNetworks words options.networks
+    pub sends : HasSendNetworks words options.send_to
     pub segments : HasSegments options.segment_length
     pub strict : options.is_strict ≡ words.is_strict
     pub measured : options.is_measured ≡ (is_some words.metrics || is_some words.times)
@@ -152,9 +165,13 @@ module _ (words : ServeWords) where
   abbrev pub HasNoConsumersEnd : Type 0
   HasNoConsumersEnd = IsNoConsumersEnd words.consumers words.consumers_on
 
+  -- what they say of the address that recordings are sent from is wrong
+  abbrev pub HasNoSendEnd : Type 0
+  HasNoSendEnd = IsNoSendEnd words.send_to.items words.send_on
+
   -- the words name no address, or no ports
   abbrev pub HasNoEnds : Type 0
-  HasNoEnds = IsNoAddress words.receive_on.now ⊎ (65535 < words.control) ⊎ (65535 < words.receive) ⊎ HasNoConsumersEnd
+  HasNoEnds = IsNoAddress words.receive_on.now ⊎ (65535 < words.control) ⊎ (65535 < words.receive) ⊎ HasNoConsumersEnd ⊎ HasNoSendEnd
 
   -- they are wrong: a usage error
   abbrev pub AreWrong : Type 0

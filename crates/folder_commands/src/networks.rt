@@ -1,11 +1,11 @@
-//! The networks that `--from` names. docs/SERVING.md, "How to run it".
+//! The networks that `--from` and `--send-to` name. docs/SERVING.md, "How to run it" and "Send a recording".
 
 ghost use Rattle.std.specs.Prelude.{◌≡◌, ◌≤◌, None, Some, IsSomeAnd, MatchOption, MatchResult, length, option_map, slice_get};
 ghost use Rattle.clap.specs.declared.error.ErrorKind.TheVariants.{ValueValidation};
 ghost use Rattle.server_receiver.specs.declared.networks.Network.{Network};
 ghost use Rattle.server_receiver.specs.declared.networks.Networks.{Networks};
 ghost use Rattle.folder_commands.specs.declared.status.Ending.TheVariants.{NoCommand};
-ghost use Rattle.folder_commands.specs.Networks.{AreNetworks, HasBadNetworks, HasNetworks, IsNetwork, IsNetworkAt, IsNetworkOf, address_part, bits_part};
+ghost use Rattle.folder_commands.specs.Networks.{AreNetworks, HasBadNetworks, HasBadSendNetworks, HasNetworks, HasSendNetworks, IsNetwork, IsNetworkAt, IsNetworkOf, address_part, bits_part};
 
 use crate::exit::Exit;
 use crate::serving::misworded;
@@ -32,6 +32,24 @@ pub(crate) fn networks_of(words: &ServeWords<'_>) -> Result<Networks, Exit>
     match networks_in(texts) {
         Some(networks) => Ok(networks),
         None => Err(misworded(UsageError::Network)),
+    }
+}
+
+/// The networks that recordings may be sent to, by the words. Refused as `networks_of`.
+pub(crate) fn send_networks_of(words: &ServeWords<'_>) -> Result<Networks, Exit>
+    ensures { MatchResult result (HasSendNetworks words.now) (λ exit.
+        HasBadSendNetworks words.now × (exit.ending ≡ NoCommand ValueValidation)) }
+{
+    let texts = words.send_to.as_slice();
+    if !texts.is_empty() && !words.is_aeron {
+        return Err(misworded(UsageError::SendToNeedsAeron));
+    }
+    if MAX_NETWORKS < texts.len() {
+        return Err(misworded(UsageError::SendNetworks));
+    }
+    match networks_in(texts) {
+        Some(networks) => Ok(networks),
+        None => Err(misworded(UsageError::SendNetwork)),
     }
 }
 

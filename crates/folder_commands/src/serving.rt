@@ -14,13 +14,13 @@ ghost use Rattle.folder_commands.specs.declared.why.Why.TheVariants.{Usage};
 ghost use Rattle.command_line.specs.declared.usage.UsageError.TheVariants.{Name};
 ghost use Rattle.folder_commands.specs.Folders.{ending_in};
 ghost use Rattle.folder_commands.specs.Left.{ends_with, leaves, left_life, sees};
-ghost use Rattle.folder_commands.specs.Serving.{AreOptions, AsksForCheckpoints, HasBadCheckpoints, HasBadName, HasBadOptions, HasBadSegments, HasBadStreams, HasBadWindow, HasNoConsumersEnd, HasNoEnds, HasSegments, HasWindow, IsAddressReason, HasCatalogue, HasName, IsNoAddress, IsReceiverWindow, IsSegmentLength, IsUnbound, LacksCatalogue, LeavesUncatalogued, RecordsStreams, ServesFolder, ServesOver, checkpoints_reason, has_bytes, has_catalogue, is_name_byte, is_recorder_name, segment_reason, streams_reason, window_reason};
+ghost use Rattle.folder_commands.specs.Serving.{AreOptions, AsksForCheckpoints, HasBadCheckpoints, HasBadName, HasBadOptions, HasBadSegments, HasBadStreams, HasBadWindow, HasNoConsumersEnd, HasNoEnds, HasNoSendEnd, HasSegments, HasWindow, IsAddressReason, HasCatalogue, HasName, IsNoAddress, IsNoSendAddress, IsReceiverWindow, IsSegmentLength, IsUnbound, LacksCatalogue, LeavesUncatalogued, RecordsStreams, ServesFolder, ServesOver, checkpoints_reason, has_bytes, has_catalogue, is_name_byte, is_recorder_name, segment_reason, streams_reason, window_reason};
 
 use crate::exit::Exit;
 use crate::flushing::FolderFlusher;
 use crate::hidden::warns_of_hidden_by;
 use crate::log::{Log, now};
-use crate::networks::networks_of;
+use crate::networks::{networks_of, send_networks_of};
 use crate::open_folder::closed;
 use crate::outcome::{Left, Outcome};
 use crate::reporting::{Measured, MetricsFile, ServeFaults, ServeReporter};
@@ -44,7 +44,7 @@ use server::{
 use std::alloc::Global;
 use std::io::{self, Eprint};
 use std::marker::Brand;
-use std::net::{Ipv4Addr, Net, TcpListener, TcpStream, UdpSocket};
+use std::net::{Ipv4Addr, Net, SocketAddrV4, TcpListener, TcpStream, UdpSocket};
 use std::path::Path;
 use std::random::RandomSource;
 use std::rt::Clock;
@@ -56,7 +56,7 @@ const LONGEST_NAME: usize = 64;
 /// Streams that `--record` may name at most.
 const MOST_STREAMS: usize = 64;
 
-/// Where control lines, datagrams and lines of consumers come to.
+/// Where control lines, datagrams and lines of consumers come to, and where recordings are sent from.
 #[derive(Clone, Copy, Drop)]
 struct Addresses {
     address: Ipv4Addr,
@@ -64,6 +64,8 @@ struct Addresses {
     receive: u16,
     /// None: no consumers are served.
     consumers: Option<ConsumersEnd>,
+    /// None: no recording is sent.
+    sending: Option<(Ipv4Addr, u16)>,
 }
 
 /// Where lines of consumers come to.
@@ -240,6 +242,7 @@ fn options_of<'a>(words: &'a ServeWords<'_>, receiver_id: i64) -> Result<ServeOp
         clients: words.clients,
         streams: streams_of(words)?,
         networks: networks_of(words)?,
+        send_to: send_networks_of(words)?,
         segment_length: segment_length_of(words)?,
         is_strict: words.is_strict,
         is_measured: words.metrics.is_some() || words.times.is_some(),
@@ -444,10 +447,43 @@ fn addresses_of(words: &ServeWords<'_>) -> Result<Addresses, Exit>
         control: port_of(words.control)?,
         receive: port_of(words.receive)?,
         consumers: consumers_end(words)?,
+        sending: send_end(words, address)?,
     })
 }
 
-/// Binds the ports: control lines to 127.0.0.1 alone, datagrams and lines of consumers each to an address. Refused if the system
+/// The address and the port that recordings are sent from: those of `--send-on`, or this address and any port. None without
+/// `--send-to`. Refused if `--send-on` comes without it, or names no address.
+fn send_end(words: &ServeWords<'_>, address: Ipv4Addr) -> Result<Option<(Ipv4Addr, u16)>, Exit>
+    ensures { MatchResult result
+        (λ _. HasNoSendEnd words.now → ⊥)
+        (λ exit. HasNoSendEnd words.now × (exit.ending ≡ NoCommand ValueValidation)) }
+{
+    let is_any = !words.send_to.is_empty();
+    match words.send_on {
+        Some(_) if !is_any => Err(misworded(UsageError::NeedsSendTo)),
+        Some(word) => Ok(Some(send_address(word)?)),
+        None if is_any => Ok(Some((address, 0))),
+        _ => Ok(None),
+    }
+}
+
+/// The address that a word names, and its port, or 0.
+fn send_address(word: &str) -> Result<(Ipv4Addr, u16), Exit>
+    ensures { MatchResult result
+        (λ _. IsNoSendAddress word.now → ⊥)
+        (λ exit. IsNoSendAddress word.now × (exit.ending ≡ NoCommand ValueValidation)) }
+{
+    if let Ok(address) = word.parse::<SocketAddrV4>() {
+        if address.ip().is_multicast() {
+            return Err(misworded(UsageError::SendMulticast));
+        }
+        return Ok((*address.ip(), address.port()));
+    }
+    let address = address_of(word, UsageError::SendAddress, UsageError::SendMulticast)?;
+    Ok((address, 0))
+}
+
+/// Binds the ports: control lines to 127.0.0.1 alone, datagrams, lines of consumers and sendings each to an address. Refused if the system
 /// refuses one.
 fn bound<R: Net<Listener = TcpListener, Stream = TcpStream>>(
     net: &R,
@@ -460,13 +496,29 @@ fn bound<R: Net<Listener = TcpListener, Stream = TcpStream>>(
         Some(end) => Some(listener_at(net, end.address, end.port)?),
         None => None,
     };
-    match UdpSocket::bind(net, (addresses.address, addresses.receive)) {
-        Ok(datagrams) => Ok(Ends {
-            control,
-            consumers,
-            datagrams,
-        }),
-        Err(error) => Err(unbound(addresses.receive, error)),
+    let sending = match addresses.sending {
+        Some((address, port)) => Some(socket_at(net, address, port)?),
+        None => None,
+    };
+    Ok(Ends {
+        control,
+        consumers,
+        datagrams: socket_at(net, addresses.address, addresses.receive)?,
+        sending,
+    })
+}
+
+/// Binds a port for datagrams to an address. Refused if the system refuses it.
+fn socket_at<R: Net<Listener = TcpListener, Stream = TcpStream>>(
+    net: &R,
+    address: Ipv4Addr,
+    port: u16,
+) -> Result<UdpSocket, Exit>
+    ensures { IfErr result (λ exit. IsUnbound exit.ending) }
+{
+    match UdpSocket::bind(net, (address, port)) {
+        Ok(socket) => Ok(socket),
+        Err(error) => Err(unbound(port, error)),
     }
 }
 

@@ -16,6 +16,10 @@ use Rattle.metrics_text.specs.declared.measures.ImageMeasures.{ImageMeasures}
 use Rattle.metrics_text.specs.declared.measures.Measures.{Measures}
 use Rattle.metrics_text.specs.declared.image_family.ImageFamily.{ImageFamily}
 use Rattle.metrics_text.specs.declared.image_family.ImageFamily.TheVariants.{Rebuilt, Consumed, Gap, GapBytes, Datagrams, Naks, Lost, LastDatagram}
+use Rattle.metrics_text.specs.declared.sends.SendFamily.{SendFamily}
+use Rattle.metrics_text.specs.declared.sends.SendFamily.TheVariants as sends
+use Rattle.metrics_text.specs.declared.sends.SendMeasures.{SendMeasures}
+use Rattle.metrics_text.specs.declared.sends.SendsMeasures.{SendsMeasures}
 use Rattle.metrics_text.specs.declared.settle_times.SettleBucket.{SettleBucket}
 use Rattle.metrics_text.specs.declared.settle_times.SettleTimes.{SettleTimes}
 use Rattle.metrics_text.specs.SettleTimes.{held_sum}
@@ -334,6 +338,61 @@ place_text who p =
     family_text (counter who (codes "aeron_recorder_datagrams_foreign_total") (codes "Datagrams of another address or network.") p.foreign)
     ++ (family_text (refusals_family who p.refused) ++ (family_text (ranks_family who p) ++ flat_map family_text (recording_families who p)))
 
+-- ---- recordings that are sent
+
+-- of all of them
+
+abbrev pub sent_count_families : List ℕ → SendsMeasures → List Family
+sent_count_families who s =
+    gauge who (codes "aeron_recorder_sends") (codes "Recordings that are sent.") (decimal s.live)
+    ∷ counter who (codes "aeron_recorder_sent_datagrams_total") (codes "Datagrams of recordings that were sent.") s.datagrams
+    ∷ counter who (codes "aeron_recorder_sent_bytes_total") (codes "Bytes of such datagrams.") s.bytes
+    ∷ counter who (codes "aeron_recorder_sent_again_total") (codes "Datagrams of recordings that were repeated.") s.repeats
+    ∷ []
+
+abbrev pub answer_families : List ℕ → SendsMeasures → List Family
+answer_families who s =
+    counter who (codes "aeron_recorder_naks_received_total") (codes "NAK frames of receivers that came.") s.naks
+    ∷ counter who (codes "aeron_recorder_status_messages_received_total") (codes "Status messages of receivers that came.") s.status_messages
+    ∷ counter who (codes "aeron_recorder_foreign_feedback_total") (codes "Datagrams that came and count for no sending.") s.foreign
+    ∷ []
+
+-- the labels of a sending. All of them are numbers, in which nothing has to be escaped
+abbrev pub send_labels : List ℕ → SendMeasures → List ℕ
+send_labels who s = codes "{recorder=\"" ++ (who ++ (codes "\",send=\"" ++ (decimal s.send ++ (codes "\",recording=\"" ++ (signed_decimal s.recording
+    ++ (codes "\",stream=\"" ++ (signed_decimal s.stream_id ++ (codes "\",session=\"" ++ (signed_decimal s.session_id ++ codes "\"}")))))))))
+
+-- a family's name, what its numbers are, and the number of a sending
+unfoldable pub send_name : SendFamily → List ℕ
+send_name sends.Position = codes "aeron_recorder_sender_position_bytes"
+send_name sends.Limit = codes "aeron_recorder_sender_limit_bytes"
+send_name sends.Consumed = codes "aeron_recorder_consumed_by_receiver_bytes"
+
+abbrev pub send_help : SendFamily → List ℕ
+send_help sends.Position = codes "Up to where a recording was sent."
+send_help sends.Limit = codes "Up to where a receiver admits a recording."
+send_help sends.Consumed = codes "Up to where a receiver has consumed a recording."
+
+unfoldable pub send_number : SendFamily → SendMeasures → List ℕ
+send_number sends.Position s = decimal s.position
+send_number sends.Limit s = decimal s.limit
+send_number sends.Consumed s = decimal s.consumed
+
+unfoldable pub send_metric_line : List ℕ → SendFamily → SendMeasures → List ℕ
+send_metric_line who f s = line (send_name f) (send_labels who s) (send_number f s)
+
+abbrev pub send_family : List ℕ → SendFamily → List SendMeasures → Family
+send_family who f all = family (codes "gauge") (send_name f) (send_help f) (flat_map (send_metric_line who f) all)
+
+abbrev pub send_position_text : List ℕ → List SendMeasures → List ℕ
+send_position_text who all =
+    family_text (send_family who sends.Position all) ++ (family_text (send_family who sends.Limit all) ++ family_text (send_family who sends.Consumed all))
+
+-- families of recordings that are sent
+abbrev pub sends_text : List ℕ → SendsMeasures → List SendMeasures → List ℕ
+sends_text who counted all =
+    flat_map family_text (sent_count_families who counted) ++ (flat_map family_text (answer_families who counted) ++ send_position_text who all)
+
 -- ---- all
 
 -- families of a recorder of this name
@@ -352,7 +411,8 @@ measures_text who m =
     ++ (family_text (replay_family who m.replays.items)
     ++ (position_text who m.recordings.items m.images.items
     ++ (received_image_text who m.images.items
-    ++ family_text (publication_holes_family who m.images.items)))))))))))))
+    ++ (family_text (publication_holes_family who m.images.items)
+    ++ sends_text who m.sending m.sends.items)))))))))))))
 
 -- the text: that of each family, one after another
 abbrev pub metrics_text : RecorderAbout → Measures → List ℕ

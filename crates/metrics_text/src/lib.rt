@@ -8,6 +8,7 @@ mod measures;
 mod places;
 mod print;
 mod publication_holes;
+mod sends;
 mod settle_times;
 
 pub use about::RecorderAbout;
@@ -17,4 +18,5 @@ pub use measures::{
 };
 pub use places::{PlaceMeasures, RefusedMeasures};
 pub use print::print_metrics;
+pub use sends::{SendMeasures, SendsMeasures};
 pub use settle_times::{SettleBucket, SettleTimes};

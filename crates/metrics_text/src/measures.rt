@@ -1,6 +1,7 @@
 //! What is measured of a server: docs/SERVING.md, "Metrics".
 
 use crate::places::PlaceMeasures;
+use crate::sends::{SendMeasures, SendsMeasures};
 use crate::settle_times::SettleTimes;
 
 /// What is measured of a server's archive.
@@ -150,4 +151,8 @@ pub struct Measures {
     pub replays: Vec<ReplayMeasures>,
     /// Of each image.
     pub images: Vec<ImageMeasures>,
+    /// Of all sendings.
+    pub sending: SendsMeasures,
+    /// Of each sending that is not over.
+    pub sends: Vec<SendMeasures>,
 }

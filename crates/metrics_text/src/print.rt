@@ -13,6 +13,7 @@ use crate::measures::{
 };
 use crate::places::put_places;
 use crate::publication_holes::put_publication_holes;
+use crate::sends::put_sends;
 use std::alloc::{AllocError, Global};
 
 /// The two lines that say what a family is.
@@ -697,7 +698,8 @@ fn put_measures(out: &mut String, who: &str, measures: &Measures) -> Result<(), 
         measures.images.as_slice(),
     )?;
     put_received_images(out, who, measures.images.as_slice())?;
-    put_publication_holes(out, who, measures.images.as_slice())
+    put_publication_holes(out, who, measures.images.as_slice())?;
+    put_sends(out, who, &measures.sending, measures.sends.as_slice())
 }
 
 /// The text of measures of a recorder, each line with its end: docs/SERVING.md, "Metrics". An error: there is no memory for it. Costs

@@ -88,8 +88,8 @@ NotesReplay event outcome old new = (mid : List ℤ) × NotesOpened (opened_repl
 
 -- What the pass has seen then is a legal history that begins with all that it had seen, with no call of its own more. The terms
 -- are those of the desk that it leads to.
-abbrev pub TermsAre : EngineState → ℤ → ClientView → Result Geometry Refusal → ClientView → Type 0
-TermsAre opening session old terms new = SeesDesk opening old.pass (λ d. terms ≡ terms_in d session) new.pass × (new ≡ record old { pass = new.pass })
+abbrev pub TermsAreSeen : EngineState → ℤ → ClientView → Result Geometry Refusal → ClientView → Type 0
+TermsAreSeen opening session old terms new = SeesDesk opening old.pass (λ d. terms ≡ terms_in d session) new.pass × (new ≡ record old { pass = new.pass })
 
 module _ {D : Type 0} (life : D → Life) (opening : EngineState) where
   -- What the pass has seen then is a legal history that ends with this call and its answer, and begins with all that it had
@@ -119,7 +119,7 @@ module _ {D : Type 0} (life : D → Life) (opening : EngineState) where
   CallsGuarded event old outcome new = CallsShared event old outcome new ⊎ IsGuarded event old outcome new
 
   abbrev pub shared_ways : Ways ClientView
-  shared_ways = record { terms = TermsAre opening; call = CallsGuarded; reopen = IsNoLine; compact = IsNoLine }
+  shared_ways = record { terms = TermsAreSeen opening; call = CallsGuarded; reopen = IsNoLine; compact = IsNoLine }
 
   -- a call that closes a replay, however it is answered
   abbrev pub ClosesReplay : ℤ → ClientView → ClientView → Type 0

@@ -91,6 +91,11 @@ impl<'a, R: Wait + Clock, T: Reporter> Client<'a, R, T> {
         self.with.shared.replays.text(self.rt, alloc)
     }
 
+    /// The answer to the line `sends`.
+    pub fn sends_text(&self, alloc: Global) -> Result<String, AllocError> {
+        self.with.shared.sends.text(self.rt, alloc)
+    }
+
     /// It is not idle now.
     fn touch(&self) {
         self.last.set(Instant::now(self.rt).ok());

@@ -14,7 +14,9 @@ use crate::line_reader::LineReader;
 use crate::listener::{Ending, SharedListener};
 use crate::options::ServeOptions;
 use crate::place::Places;
-use crate::script_reader::{LONGEST_FOLLOW, OwnLines, ScriptReader};
+use crate::script_reader::{LONGEST_LINE, OwnLines, ScriptReader, WordedLine};
+use crate::send_lines::answer_sending;
+use crate::sendings::Sendings;
 use archive_model::Reply;
 use control_lines::{FollowFields, Line, parse_line, print_following, print_refusal};
 use frame_core::Refusal;
@@ -57,6 +59,8 @@ pub(crate) struct ClientOptions {
     pub lists_replays: bool,
     /// Whether the line `follow` is answered.
     pub follows: bool,
+    /// Whether the lines `send`, `sends` and `stop-sending` are answered.
+    pub sends: bool,
     /// Whether the replays that a connection leaves open are closed.
     pub closes_replays: bool,
     /// Whether one client is served at a time. Its merge goes on in the next connection.
@@ -76,6 +80,7 @@ impl ClientOptions {
         ensures replays { IsTrue result.lists_replays ↔ (IsTrue result.lists_images ⊎ IsFalse result.is_single) }
         ensures follows { IsTrue result.follows ↔ ((0 < places.now.followers)
             × (IsTrue result.lists_images ⊎ IsFalse result.is_single)) }
+        ensures sends { result.sends ≡ result.lists_images }
         ensures checkpoints { result.offers_checkpoints ≡ options.now.makes_checkpoints }
         ensures reads { result.only_reads ≡ false }
     {
@@ -86,6 +91,7 @@ impl ClientOptions {
             lists_images,
             lists_replays: lists_images || !is_single,
             follows: places.followers > 0 && (lists_images || !is_single),
+            sends: lists_images,
             closes_replays: options.clients.is_some(),
             is_single,
             offers_checkpoints: options.makes_checkpoints,
@@ -100,6 +106,7 @@ impl ClientOptions {
         ensures images { IsTrue result.lists_images ↔ IsSome options.now.window }
         ensures replays { result.lists_replays ≡ false }
         ensures follows { IsTrue result.follows ↔ (0 < places.now.followers) }
+        ensures sends { result.sends ≡ false }
         ensures checkpoints { result.offers_checkpoints ≡ false }
         ensures reads { result.only_reads ≡ true }
     {
@@ -108,6 +115,7 @@ impl ClientOptions {
             lists_images: options.window.is_some(),
             lists_replays: false,
             follows: places.followers > 0,
+            sends: false,
             closes_replays: true,
             is_single: false,
             offers_checkpoints: false,
@@ -137,8 +145,10 @@ pub(crate) struct Connections<T> {
     pub consumers: Option<Port>,
     /// How many clients are served at a time, and how many followers.
     pub places: Places,
-    /// Connections that are sent frames.
+    /// Connections that are sent frames, and recordings that are sent.
     pub followers: Followers,
+    /// The places of recordings that are sent.
+    pub sendings: Sendings,
 }
 
 impl<T: Reporter> Connections<T> {
@@ -314,8 +324,8 @@ fn serve_reader<R: Wait + Clock, T: Reporter, I: Read + Drop, W: Write, S: Answe
     (state, ConnectionEnd::of(has_quit))
 }
 
-/// Answers the lines of a client as `serve_reader`, a line `images` or `replays` between them by the images or the open replays,
-/// and a line `follow` by a replay whose frames the client is sent.
+/// Answers the lines of a client as `serve_reader`, and between them those that the server answers by itself: `images`, `replays`
+/// and `sends` by what there is, `follow` by a replay whose frames the client is sent, `send` and `stop-sending`.
 fn serve_scripts<R: Wait + Clock, T: Reporter, I: Read + Drop, W: Write, S: Answerer>(
     rt: &R,
     with: &Connections<T>,
@@ -330,6 +340,7 @@ fn serve_scripts<R: Wait + Clock, T: Reporter, I: Read + Drop, W: Write, S: Answ
         images: options.lists_images,
         replays: options.lists_replays,
         follow: options.follows,
+        sends: options.sends,
     };
     let Ok(mut reader) = ScriptReader::new(alloc, reader, taken) else {
         return (state, ConnectionEnd::Ended);
@@ -355,7 +366,7 @@ fn serve_scripts<R: Wait + Clock, T: Reporter, I: Read + Drop, W: Write, S: Answ
     (state, ConnectionEnd::Ended)
 }
 
-/// Answers the line `images`, `replays` or `follow`, if one of them comes next. How the lines end, if they do.
+/// Answers the line that comes next, if the server answers it by itself. How the lines end, if they do.
 fn answer_own<R: Wait + Clock, T: Reporter, I: Read, W: Write>(
     rt: &R,
     with: &Connections<T>,
@@ -369,17 +380,41 @@ fn answer_own<R: Wait + Clock, T: Reporter, I: Read, W: Write>(
     if reader.takes_replays() {
         return put_text(client.replays_text(with.alloc), writer);
     }
-    let mut line = [0; LONGEST_FOLLOW];
-    let count = reader.take_follow(&mut line);
-    if count == 0 {
-        return Some(ConnectionEnd::Ended);
+    if reader.takes_sends() {
+        return put_text(client.sends_text(with.alloc), writer);
     }
-    match asked_by(with.alloc, &line[..count]) {
-        Ok(fields) => {
-            let address = client.address();
-            answer_follow(rt, with, &Asked { fields, address }, writer)
-        }
-        Err(refusal) => put_refusal(&refusal, writer),
+    let mut line = [0; LONGEST_LINE];
+    let Some((worded, count)) = reader.take_worded(&mut line) else {
+        return Some(ConnectionEnd::Ended);
+    };
+    answer_worded(rt, with, client, worded, &line[..count], writer)
+}
+
+/// Answers a line of several words. How the lines end, if they do.
+fn answer_worded<R: Wait + Clock, T: Reporter, W: Write>(
+    rt: &R,
+    with: &Connections<T>,
+    client: &Client<'_, R, T>,
+    worded: WordedLine,
+    line: &[u8],
+    writer: &mut W,
+) -> Option<ConnectionEnd> {
+    match worded {
+        WordedLine::Sending => match answer_sending(rt, with, line) {
+            Ok(text) => put_text(Ok(text), writer),
+            Err(refusal) => put_refusal(&refusal, writer),
+        },
+        WordedLine::Follow => match asked_by(with.alloc, line) {
+            Ok(fields) => {
+                let asked = Asked {
+                    fields,
+                    address: client.address(),
+                    to: None,
+                };
+                answer_follow(rt, with, &asked, writer)
+            }
+            Err(refusal) => put_refusal(&refusal, writer),
+        },
     }
 }
 

@@ -11,4 +11,6 @@ pub struct Ends {
     pub consumers: Option<TcpListener>,
     /// Where datagrams come to.
     pub datagrams: UdpSocket,
+    /// Where recordings are sent from. None: none is sent.
+    pub sending: Option<UdpSocket>,
 }

@@ -2,17 +2,20 @@
 
 use control_lines::FollowFields;
 use frame_core::Refusal;
+use server_sender::Endpoint;
 use std::alloc::{AllocError, Global};
 use std::mem;
 use std::net::{SocketAddr, TcpStream};
 use std::sync::atomic::{AtomicBool, Ordering};
 use std::sync::{Condvar, Mutex, MutexGuard, Wait};
 
-/// What a client asks for, and where its connection comes from, if that is known.
+/// What a client asks for, where its connection comes from, if that is known, and where to the frames are sent as a publication, if
+/// they are not sent to the connection.
 #[derive(Clone, Copy)]
 pub(crate) struct Asked {
     pub fields: FollowFields,
     pub address: Option<SocketAddr>,
+    pub to: Option<Endpoint>,
 }
 
 /// How far the place of a follower is.
@@ -26,7 +29,7 @@ enum Stage {
     Asked(Asked),
     /// The place's thread opens a replay.
     Opening,
-    /// It has answered where the frames begin, in bytes of the stream, or why there are none.
+    /// It has answered where the frames begin, in bytes of the stream, or the number of a sending; or why there are none.
     Answered(Result<i64, Refusal>),
     /// The client is told so.
     Awaited,
@@ -263,7 +266,8 @@ impl Followers {
         self.table.lock(rt)
     }
 
-    /// Asks for frames, and waits until a thread has answered: a claim to its place, and where the frames begin. `MaxReplays`
+    /// Asks for frames, and waits until a thread has answered: a claim to its place, and where the frames begin, or the number of the
+    /// sending. `MaxReplays`
     /// if no place is free, `BadLine` if there are none, `Broken` if no archive is open.
     pub fn ask<R: Wait>(&self, rt: &R, asked: &Asked) -> Result<(Claim, i64), Refusal> {
         if !self.are_served() {
@@ -321,9 +325,14 @@ impl Followers {
         table.take_asked(place)
     }
 
-    /// Answers the client at a place.
+    /// Answers the client at a place. If that is a refusal, nobody follows there.
     pub fn answer<R: Wait>(&self, rt: &R, place: usize, answer: Result<i64, Refusal>) {
-        self.table.lock(rt).set(place, Stage::Answered(answer));
+        let mut table = self.table.lock(rt);
+        if answer.is_err() {
+            table.leave(place);
+            self.set_to_end(place, false);
+        }
+        table.set(place, Stage::Answered(answer));
         self.changed.notify_all();
     }
 

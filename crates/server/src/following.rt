@@ -1,4 +1,5 @@
-//! The threads that send followers the frames of replays, read beside the archive's lock. docs/SERVING.md, "Consumers".
+//! The threads that send followers the frames of replays, or read what is sent as publications, beside the archive's lock.
+//! docs/SERVING.md, "Consumers" and "Send a recording".
 
 ghost use Rattle.std.specs.Prelude.{◌≡◌, ◌≤ℤ◌, IfErr, IfOk};
 ghost use Rattle.server.specs.Clients.{IsBack};
@@ -9,6 +10,7 @@ use crate::follower_connection::{FollowerConnection, FollowerWriter};
 use crate::followers::Asked;
 use crate::openings::Openings;
 use crate::pushing::{FollowEnd, send_all};
+use crate::sending::send_recording;
 use archive_lock::{Made, Naming, SharedArchive};
 use archive_model::Descriptor;
 use call_history::Pass;
@@ -37,9 +39,9 @@ pub(crate) struct Following<'a, D: Disk, A: Naming, R, T> {
 
 /// What a follower is sent, and by which replay.
 #[derive(Drop)]
-struct Followed<E: Disk> {
-    replayer: SettledReplayer<E>,
-    stream: FollowedStream,
+pub(crate) struct Followed<E: Disk> {
+    pub replayer: SettledReplayer<E>,
+    pub stream: FollowedStream,
 }
 
 /// Who sends the followers of places their frames.
@@ -121,15 +123,10 @@ fn follow<D: Disk, A: Naming, R: Wait + Clock, T: Reporter, E: Disk + Drop, O: O
         ..
     } = following;
     match begun::<D, A, R, T, E, O>(following, openings, pass, &asked.fields) {
-        Ok(followed) => {
-            note_begun(following, &followed.replayer, asked);
-            let position = followed.replayer.next_position();
-            with.followers.answer(*rt, *place, Ok(position));
-            match with.followers.stream(*rt, *place) {
-                Some(stream) => send(following, followed, stream),
-                None => finish(following, followed.replayer),
-            }
-        }
+        Ok(followed) => match &asked.to {
+            Some(to) => send_recording(following, followed, asked, to),
+            None => send_frames(following, followed, asked),
+        },
         Err(Unopened { pass, refusal }) => {
             with.followers.answer(*rt, *place, Err(refusal));
             pass
@@ -137,11 +134,36 @@ fn follow<D: Disk, A: Naming, R: Wait + Clock, T: Reporter, E: Disk + Drop, O: O
     }
 }
 
-/// Notes a follower's replay among those that are open.
-fn note_begun<D: Disk, A: Naming, E: Disk + Drop, R: Wait, T: Reporter>(
+/// Sends a client the frames that it asks for: the pass.
+fn send_frames<D: Disk, A: Naming, R: Wait + Clock, T: Reporter, E: Disk + Drop>(
+    following: &Following<'_, D, A, R, T>,
+    followed: Followed<E>,
+    asked: &Asked,
+) -> Pass<Made>
+    requires { followed.replayer.held.pass.table ≡ A.table }
+    ensures { IsBack followed.replayer.held.pass result }
+{
+    let Following {
+        rt,
+        with,
+        place,
+        ..
+    } = following;
+    note_begun(following, &followed.replayer, asked, ReplayReader::Follow);
+    let position = followed.replayer.next_position();
+    with.followers.answer(*rt, *place, Ok(position));
+    match with.followers.stream(*rt, *place) {
+        Some(stream) => send(following, followed, stream),
+        None => finish(following, followed.replayer),
+    }
+}
+
+/// Notes a replay among those that are open.
+pub(crate) fn note_begun<D: Disk, A: Naming, E: Disk + Drop, R: Wait, T: Reporter>(
     following: &Following<'_, D, A, R, T>,
     replayer: &SettledReplayer<E>,
     asked: &Asked,
+    reader: ReplayReader,
 ) {
     let position = Some(replayer.next_position());
     let replay = KnownReplay {
@@ -150,7 +172,7 @@ fn note_begun<D: Disk, A: Naming, E: Disk + Drop, R: Wait, T: Reporter>(
         first: position,
         next: position,
         length: asked.fields.length,
-        reader: ReplayReader::Follow,
+        reader,
         address: asked.address,
     };
     following.with.shared.replays.follow(following.rt, replay);
@@ -221,7 +243,7 @@ fn finish<D: Disk, A: Naming, E: Disk + Drop, R: Wait, T: Reporter>(
 }
 
 /// Closes the archive's replay, or leaves it to the client that has asked for that. Its number is any client's from then on.
-fn freed<D: Disk, A: Naming, E: Disk + Drop, R: Wait, T: Reporter>(
+pub(crate) fn freed<D: Disk, A: Naming, E: Disk + Drop, R: Wait, T: Reporter>(
     following: &Following<'_, D, A, R, T>,
     replayer: SettledReplayer<E>,
 ) -> Pass<Made>

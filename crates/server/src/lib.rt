@@ -20,6 +20,10 @@ mod options;
 mod place;
 mod pushing;
 mod script_reader;
+mod send_lines;
+mod sender_thread;
+mod sending;
+mod sendings;
 mod served;
 mod serving;
 mod unopened;
@@ -32,6 +36,6 @@ pub use server_receiver::{MAX_NETWORKS, Network, Networks};
 pub use server_recorder::{Flusher, Unflushed};
 pub use server_state::{
     ArchiveNews, ClientNews, Counted, GapNews, Happening, HoleCause, ImageCounted, ImageNews,
-    LineReporter, PlaceNews, Reporter, ResumeNews, SessionNews, Unreported,
+    LineReporter, PlaceNews, Reporter, ResumeNews, SendNews, SessionNews, Unreported,
 };
 pub use serving::{serve_flushing, serve_on, serve_with};

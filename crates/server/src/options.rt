@@ -31,6 +31,8 @@ pub struct ServeOptions<'a> {
     pub streams: &'a [i32],
     /// The networks that datagrams are taken from.
     pub networks: Networks,
+    /// The networks that recordings may be sent to. None is sent anywhere else.
+    pub send_to: Networks,
     /// Bytes of a segment of such a recording: a power of two from 65,536 to 1,073,741,824. It is a term if that is longer.
     pub segment_length: i32,
     /// Whether the server ends by itself once it can record nothing: its archive can't be opened, a write has failed, or its
@@ -46,15 +48,15 @@ pub struct ServeOptions<'a> {
 
 impl<'a> ServeOptions<'a> {
     /// A client may be idle for 60 seconds while another waits, a block waits for 5 milliseconds at most, no status message is
-    /// sent, one client is served at a time, nothing is recorded without being asked, datagrams of all networks are taken, the server
-    /// is not strict, nothing is
-    /// measured, and no checkpoint is made.
+    /// sent, one client is served at a time, nothing is recorded without being asked, datagrams of all networks are taken, no recording
+    /// is sent anywhere, the server is not strict, nothing is measured, and no checkpoint is made.
     pub fn new() -> ServeOptions<'a>
         ensures times { (result.idle_seconds ≡ 60) × (result.settle_every ≡ 5) }
         ensures receiver { (result.window ≡ None) × (result.receiver_id ≡ pos 0) }
         ensures clients { result.clients ≡ None }
         ensures streams { (result.streams.now ≡ []) × (result.segment_length ≡ pos 134217728) }
         ensures networks { result.networks ≡ record { networks = replicate 16 None } }
+        ensures sends { result.send_to ≡ record { networks = replicate 16 None } }
         ensures strict { result.is_strict ≡ false }
         ensures measured { result.is_measured ≡ false }
         ensures checkpoints { (result.makes_checkpoints ≡ false) × (result.begins_short ≡ false) }
@@ -67,6 +69,7 @@ impl<'a> ServeOptions<'a> {
             clients: None,
             streams: &[],
             networks: Networks::new(),
+            send_to: Networks::new(),
             segment_length: SEGMENT_LENGTH,
             is_strict: false,
             is_measured: false,

@@ -138,7 +138,7 @@ fn send_next<D: Disk, A: Naming, E: Disk + Drop, R: Wait, T: Reporter, W: Write>
 }
 
 /// Moves the archive's replay on as `move_on`, and notes where the next frame begins.
-fn keep_up<D: Disk, A: Naming, E: Disk + Drop, R: Wait, T: Reporter>(
+pub(crate) fn keep_up<D: Disk, A: Naming, E: Disk + Drop, R: Wait, T: Reporter>(
     following: &Following<'_, D, A, R, T>,
     replayer: &mut SettledReplayer<E>,
 )

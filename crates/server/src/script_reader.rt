@@ -1,9 +1,9 @@
-//! What a client sends up to a line `images`, `replays` or `follow`, which the server answers by itself. docs/SERVING.md, "Which
-//! images there are", "Which replays are open" and "Consumers".
+//! What a client sends up to a line that the server answers by itself: `images`, `replays`, `sends`, or one that begins with `follow`,
+//! `send` or `stop-sending`. docs/SERVING.md, "Which images there are", "Which replays are open", "Consumers" and "Send a recording".
 
-ghost use Rattle.std.specs.Prelude.{◌≡◌, ◌≤◌, ◌==◌, length, take, vec_len};
+ghost use Rattle.std.specs.Prelude.{◌≡◌, ◌≤◌, ◌==◌, IfSome, length, take, vec_len};
 ghost use Rattle.std.specs.List.{list_any};
-ghost use Rattle.server.specs.OwnLines.{ends_soon, is_follow, is_images, is_line, is_replays, may_be_follow, may_be_images, may_be_own, may_be_replays, may_grow, script_length};
+ghost use Rattle.server.specs.OwnLines.{ends_soon, is_images, is_line, is_replays, is_sends, is_worded, may_be_images, may_be_own, may_be_replays, may_be_sending, may_be_sends, may_be_worded, may_grow, script_length};
 
 use memchr::memchr;
 use std::alloc::{AllocError, Global};
@@ -13,10 +13,16 @@ use std::io::{self, Read};
 const IMAGES: &[u8; 7] = b"images\n";
 /// The line that asks for the open replays.
 const REPLAYS: &[u8; 8] = b"replays\n";
+/// The line that asks for the sendings.
+const SENDS: &[u8; 6] = b"sends\n";
 /// How a line begins that asks for frames.
 const FOLLOW: &[u8; 7] = b"follow ";
+/// How a line begins by which a recording is sent.
+const SEND: &[u8; 5] = b"send ";
+/// How a line begins by which a sending ends.
+const STOP_SENDING: &[u8; 13] = b"stop-sending ";
 /// Bytes of the longest such line, its end among them: a longer one is no control line.
-pub(crate) const LONGEST_FOLLOW: usize = 70;
+pub(crate) const LONGEST_LINE: usize = 90;
 /// Bytes that are read at once at most.
 const READ_AHEAD: usize = 65_536;
 
@@ -29,6 +35,17 @@ pub(crate) struct OwnLines {
     pub replays: bool,
     /// Lines that begin with `follow`.
     pub follow: bool,
+    /// The line `sends`, and lines that begin with `send` or `stop-sending`.
+    pub sends: bool,
+}
+
+/// A line of several words that the server answers by itself, by how it begins.
+#[derive(Clone, Copy, Debug, PartialEq, Eq)]
+pub(crate) enum WordedLine {
+    /// It asks for frames.
+    Follow,
+    /// A recording is to be sent, or a sending is to end.
+    Sending,
 }
 
 /// Reads a client's lines up to one that the server answers by itself; once that was taken, those after it.
@@ -103,23 +120,56 @@ impl<R: Read> ScriptReader<R> {
         self.own.replays && self.begins_line && is_replays(self.waiting(), self.has_ended)
     }
 
+    /// Whether the line `sends` comes next. It is passed over then.
+    pub fn takes_sends(&mut self) -> bool {
+        let is_next = self.is_at_sends();
+        if is_next {
+            self.pass_over(SENDS.len());
+        }
+        is_next
+    }
+
+    fn is_at_sends(&self) -> bool {
+        self.own.sends && self.begins_line && is_sends(self.waiting(), self.has_ended)
+    }
+
     fn is_at_follow(&self) -> bool {
-        self.own.follow && self.begins_line && is_follow(self.waiting(), self.has_ended)
+        self.own.follow && self.begins_line && is_worded(self.waiting(), FOLLOW, self.has_ended)
+    }
+
+    fn is_at_sending(&self) -> bool {
+        self.own.sends
+            && self.begins_line
+            && (is_worded(self.waiting(), SEND, self.has_ended)
+                || is_worded(self.waiting(), STOP_SENDING, self.has_ended))
     }
 
     /// Whether a line comes next that the server answers by itself.
     fn is_at_own(&self) -> bool {
-        self.is_at_images() || self.is_at_replays() || self.is_at_follow()
+        self.is_at_images()
+            || self.is_at_replays()
+            || self.is_at_sends()
+            || self.is_at_follow()
+            || self.is_at_sending()
     }
 
-    /// Takes the line that comes next, if it begins with `follow`: how many bytes it has, its end among them, unless that is
-    /// missing. 0 if another one comes next.
-    pub fn take_follow(&mut self, line: &mut [u8; LONGEST_FOLLOW]) -> usize
-        ensures { result ≤ 70 }
-    {
-        if !self.is_at_follow() {
-            return 0;
+    /// Which line of several words comes next.
+    fn worded(&self) -> Option<WordedLine> {
+        if self.is_at_follow() {
+            Some(WordedLine::Follow)
+        } else if self.is_at_sending() {
+            Some(WordedLine::Sending)
+        } else {
+            None
         }
+    }
+
+    /// Takes the line of several words that comes next: which it is, and how many bytes it has, its end among them, unless that is
+    /// missing. None if another one comes next.
+    pub fn take_worded(&mut self, line: &mut [u8; LONGEST_LINE]) -> Option<(WordedLine, usize)>
+        ensures { IfSome result (λ taken. taken.1 ≤ 90) }
+    {
+        let worded = self.worded()?;
         let waiting = self.waiting();
         let length = match memchr(b'\n', waiting) {
             Some(end) => end + 1,
@@ -127,7 +177,7 @@ impl<R: Read> ScriptReader<R> {
         };
         let count = self.give(length, line);
         self.begins_line = true;
-        count
+        Some((worded, count))
     }
 
     /// Reads further bytes after those that wait, which move to the front of the buffer.
@@ -208,28 +258,42 @@ fn may_be_replays(bytes: &[u8], has_ended: bool) -> bool
     is_replays(bytes, has_ended) || (!has_ended && REPLAYS.starts_with(bytes))
 }
 
-/// Whether bytes begin with a line that begins with `follow`, and is short enough.
-fn is_follow(bytes: &[u8], has_ended: bool) -> bool
-    ensures { result ≡ is_follow has_ended bytes.now }
+/// Whether bytes begin with the line `sends`; if no more bytes come, its end may be missing.
+fn is_sends(bytes: &[u8], has_ended: bool) -> bool
+    ensures { result ≡ is_sends has_ended bytes.now }
 {
-    bytes.starts_with(FOLLOW) && ends_soon(bytes, has_ended)
+    is_line(bytes, SENDS, b"sends", has_ended)
+}
+
+/// Whether bytes begin with the line `sends`, or may once more of them come.
+fn may_be_sends(bytes: &[u8], has_ended: bool) -> bool
+    ensures { result ≡ may_be_sends has_ended bytes.now }
+{
+    is_sends(bytes, has_ended) || (!has_ended && SENDS.starts_with(bytes))
+}
+
+/// Whether bytes begin with a line that begins with a word, and is short enough.
+fn is_worded(bytes: &[u8], word: &[u8], has_ended: bool) -> bool
+    ensures { result ≡ is_worded word.now has_ended bytes.now }
+{
+    bytes.starts_with(word) && ends_soon(bytes, has_ended)
 }
 
 /// Whether a line that bytes begin with is short enough.
 fn ends_soon(bytes: &[u8], has_ended: bool) -> bool
     ensures { result ≡ ends_soon has_ended bytes.now }
 {
-    has_line_end(front_of(bytes)) || (has_ended && bytes.len() <= LONGEST_FOLLOW)
+    has_line_end(front_of(bytes)) || (has_ended && bytes.len() <= LONGEST_LINE)
 }
 
-/// The first 70 bytes, or all if there are not so many.
+/// The first 90 bytes, or all if there are not so many.
 fn front_of(bytes: &[u8]) -> &[u8]
-    ensures { result.now ≡ take 70 bytes.now }
+    ensures { result.now ≡ take 90 bytes.now }
 {
-    if bytes.len() <= LONGEST_FOLLOW {
+    if bytes.len() <= LONGEST_LINE {
         bytes
     } else {
-        &bytes[..LONGEST_FOLLOW]
+        &bytes[..LONGEST_LINE]
     }
 }
 
@@ -247,17 +311,26 @@ fn is_line_end(byte: &u8) -> bool
 }
 
 /// Whether bytes begin with such a line, or may once more of them come.
-fn may_be_follow(bytes: &[u8], has_ended: bool) -> bool
-    ensures { result ≡ may_be_follow has_ended bytes.now }
+fn may_be_worded(bytes: &[u8], word: &[u8], has_ended: bool) -> bool
+    ensures { result ≡ may_be_worded word.now has_ended bytes.now }
 {
-    is_follow(bytes, has_ended) || (!has_ended && may_grow(bytes))
+    is_worded(bytes, word, has_ended) || (!has_ended && may_grow(bytes, word))
 }
 
 /// Whether bytes may be the first of such a line.
-fn may_grow(bytes: &[u8]) -> bool
-    ensures { result ≡ may_grow bytes.now }
+fn may_grow(bytes: &[u8], word: &[u8]) -> bool
+    ensures { result ≡ may_grow word.now bytes.now }
 {
-    bytes.len() < LONGEST_FOLLOW && (bytes.starts_with(FOLLOW) || FOLLOW.starts_with(bytes))
+    bytes.len() < LONGEST_LINE && (bytes.starts_with(word) || word.starts_with(bytes))
+}
+
+/// Whether bytes begin with a line about sendings, or may once more of them come.
+fn may_be_sending(bytes: &[u8], has_ended: bool) -> bool
+    ensures { result ≡ may_be_sending has_ended bytes.now }
+{
+    may_be_sends(bytes, has_ended)
+        || may_be_worded(bytes, SEND, has_ended)
+        || may_be_worded(bytes, STOP_SENDING, has_ended)
 }
 
 /// Whether bytes begin with a line that the server answers by itself, or may once more of them come.
@@ -266,11 +339,12 @@ fn may_be_own(own: &OwnLines, bytes: &[u8], has_ended: bool) -> bool
 {
     (own.images && may_be_images(bytes, has_ended))
         || (own.replays && may_be_replays(bytes, has_ended))
-        || (own.follow && may_be_follow(bytes, has_ended))
+        || (own.follow && may_be_worded(bytes, FOLLOW, has_ended))
+        || (own.sends && may_be_sending(bytes, has_ended))
 }
 
 /// How many bytes stand before a line that the server answers by itself, or before what may become one. Costs a step for each
-/// byte, and 70 for each that begins a line.
+/// byte, and 90 for each that begins a line.
 fn script_length(own: &OwnLines, bytes: &[u8], begins_line: bool, has_ended: bool) -> usize
     ensures { result ≡ script_length own.now has_ended begins_line bytes.now }
 {

@@ -18,6 +18,8 @@ use crate::listener::{Ending, SharedListener};
 use crate::openings::Openings;
 use crate::options::ServeOptions;
 use crate::place::{CONSUMERS, Places};
+use crate::sender_thread::send_all;
+use crate::sendings::Sendings;
 use crate::served::{Served, stuck_by, unopened_stop};
 use archive_lock::{Closed, Made, Naming, SharedArchive};
 use call_history::{Opened, Pass};
@@ -120,6 +122,7 @@ pub fn serve_on<R: Threads + Wait + Clock + Sync, D: Disk + Drop + Send>(
         control: listener,
         consumers: None,
         datagrams: socket,
+        sending: None,
     };
     match serve_with(rt, alloc, ends, disk, &options, Unreported) {
         Ok(served) => Ok(served.disk),
@@ -207,11 +210,17 @@ pub fn serve_flushing<
     let Ok(followers) = Followers::new(alloc, places.followers) else {
         return Err(ScriptFault::Memory(disk));
     };
+    let mut ends = ends;
+    let Ok(sendings) = sendings_of(rt, alloc, &mut ends, options, places) else {
+        return Err(ScriptFault::Memory(disk));
+    };
     let (archive, beginning) = match ScriptArchive::of_disk(alloc, disk) {
         Ok(found) => found,
         Err(disk) => return Err(ScriptFault::Memory(disk)),
     };
-    let lines = connections_of(rt, alloc, shared, ends, options, places, followers);
+    let lines = connections_of(
+        rt, alloc, shared, ends, options, places, followers, sendings,
+    );
     let sender = ReadSender::<E, F>::new(flusher);
     let serving = Serving {
         rt,
@@ -246,6 +255,26 @@ fn places_for<E, O: Openings<E>>(
     Places::of(options.clients, has_consumers, follows)
 }
 
+/// The places of recordings that are sent, and the socket that they are sent by, of these ends.
+fn sendings_of<R: Wait + Clock>(
+    rt: &R,
+    alloc: Global,
+    ends: &mut Ends,
+    options: &ServeOptions<'_>,
+    places: Places,
+) -> Result<Sendings, AllocError> {
+    let receive = ends.datagrams.local_addr().ok();
+    let socket = ends.sending.take();
+    Sendings::new(
+        rt,
+        alloc,
+        socket,
+        options.send_to,
+        receive,
+        places.followers,
+    )
+}
+
 /// What the threads that serve connections share, for so many clients at these ends.
 fn connections_of<R: Wait, T: Reporter>(
     rt: &R,
@@ -255,6 +284,7 @@ fn connections_of<R: Wait, T: Reporter>(
     options: &ServeOptions<'_>,
     places: Places,
     followers: Followers,
+    sendings: Sendings,
 ) -> Connections<T>
     ensures { result.places ≡ places }
 {
@@ -280,6 +310,7 @@ fn connections_of<R: Wait, T: Reporter>(
         consumers,
         places,
         followers,
+        sendings,
     }
 }
 
@@ -348,6 +379,11 @@ fn begin<R, T: Reporter, F>(with: &Serving<'_, R, T, F>, beginning: Beginning) {
     if let Some(port) = &with.lines.consumers {
         if let Ok(consumers) = port.listener.address() {
             with.shared.report(&Happening::BoundConsumers { consumers });
+        }
+    }
+    if let Some(socket) = with.lines.sendings.socket() {
+        if let Ok(send) = socket.local_addr() {
+            with.shared.report(&Happening::BoundSending { send });
         }
     }
     with.shared
@@ -429,7 +465,8 @@ fn lacking<D: Disk + Drop>(engine: Engine<D>) -> (Served<D>, Result<(), EarlyEnd
     (served, Err(EarlyEnd::Memory))
 }
 
-/// Serves an archive by a thread that receives, one that records, and one for each client: all its passes, and how that ended.
+/// Serves an archive by a thread that receives, one that records, one that sends, and one for each client: all its passes, and how
+/// that ended.
 fn serve_shared<
     D: Disk + Drop + Send,
     A: Naming + Send + Sync,
@@ -488,8 +525,18 @@ fn serve_shared<
                     Err(EarlyEnd::Memory),
                 );
             };
+            let sending = scope.spawn(move || send_all(*rt, *lines));
+            let Ok(sending) = sending else {
+                shared.end(socket);
+                let _ = receiver.join(*rt);
+                return (
+                    recorder.join(*rt).into_passes(clients),
+                    Err(EarlyEnd::Memory),
+                );
+            };
             let clients = serve_clients(*rt, lines, sender, archive, clients);
             shared.end(socket);
+            sending.join(*rt);
             let is_whole = receiver.join(*rt);
             (
                 recorder.join(*rt).into_passes(clients),

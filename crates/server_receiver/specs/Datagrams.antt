@@ -35,17 +35,17 @@ abbrev pub image_with : Publication → List (Option Received) → Option ℕ
 image_with publication images = position (has_publication publication) images
 
 -- the image at a place
-abbrev pub image_at : ℕ → List (Option Received) → Option Received
-image_at i images = slice_index_or images i None
+abbrev pub received_at : ℕ → List (Option Received) → Option Received
+received_at i images = slice_index_or images i None
 
 -- the place of one more image: the least without one, or else the next one, of 64
-abbrev pub place_for_next : List (Option Received) → Option ℕ
-place_for_next images = vacant_or_next (position is_none images) (length images)
+abbrev pub place_for_image : List (Option Received) → Option ℕ
+place_for_image images = vacant_or_next (position is_none images) (length images)
 
 -- an image more, at a place without one, or at the next one
-abbrev pub put_image : Option ℕ → Received → List (Option Received) → List (Option Received)
-put_image None image images = images ++ Some image ∷ []
-put_image (Some i) image images = slice_set images i (Some image)
+abbrev pub with_received_at : Option ℕ → Received → List (Option Received) → List (Option Received)
+with_received_at None image images = images ++ Some image ∷ []
+with_received_at (Some i) image images = slice_set images i (Some image)
 
 -- the image of the publication of the first of some frames
 abbrev pub image_of : List Frame → List (Option Received) → Option ℕ
@@ -66,14 +66,14 @@ is_full_of None = false
 is_full_of (Some image) = is_full_image image
 
 -- the next block of an image was taken; or there is none
-abbrev pub GivesNext : Option Received → Option Block → Option Received → Type 0
-GivesNext old None new = (has_block_of old ≡ false) × (new ≡ old)
-GivesNext old (Some block) new = (image : Received) × (after : Received) × (old ≡ Some image) × GivesBlock image block after × (new ≡ Some after)
+abbrev pub GivesNextBlock : Option Received → Option Block → Option Received → Type 0
+GivesNextBlock old None new = (has_block_of old ≡ false) × (new ≡ old)
+GivesNextBlock old (Some block) new = (image : Received) × (after : Received) × (old ≡ Some image) × GivesBlock image block after × (new ≡ Some after)
 
 -- of the image at a place, and the others stay
 abbrev pub TakesAt : Option (Option Received) → ℕ → List (Option Received) → Option Block → List (Option Received) → Type 0
 TakesAt None i olds found news = (found ≡ None) × (news ≡ olds)
-TakesAt (Some old) i olds found news = (after : Option Received) × GivesNext old found after × (news ≡ slice_set olds i after)
+TakesAt (Some old) i olds found news = (after : Option Received) × GivesNextBlock old found after × (news ≡ slice_set olds i after)
 
 abbrev pub TakesNext : ℕ → List (Option Received) → Option Block → List (Option Received) → Type 0
 TakesNext i olds found news = TakesAt (slice_get olds i) i olds found news
@@ -102,14 +102,14 @@ join_point image = record { publication = image.publication; geometry = image.ge
 -- one image more, which joined there
 abbrev pub BeginsImage : Setup → List (Option Received) → StreamPoint → List (Option Received) → Type 0
 BeginsImage setup olds point news =
-    (image : Received) × IsBegun setup image × (point ≡ join_point image) × (news ≡ put_image (position is_none olds) image olds)
+    (image : Received) × IsBegun setup image × (point ≡ join_point image) × (news ≡ with_received_at (position is_none olds) image olds)
 
 -- A setup frame of a publication without an image makes one image more exactly if there is a place; for want of memory there is
 -- none.
 abbrev pub BegunBy : Setup → List (Option Received) → List (Option Received) → DatagramOutcome → Type 0
-BegunBy setup olds news (NoPlace publication) = (place_for_next olds ≡ None) × (publication ≡ publication_of_setup setup) × (news ≡ olds)
-BegunBy setup olds news (Joined i point) = (place_for_next olds ≡ Some i) × BeginsImage setup olds point news
-BegunBy setup olds news (Refused refusal) = (is_some (place_for_next olds) ≡ true) × (refusal ≡ NoMemory) × (news ≡ olds)
+BegunBy setup olds news (NoPlace publication) = (place_for_image olds ≡ None) × (publication ≡ publication_of_setup setup) × (news ≡ olds)
+BegunBy setup olds news (Joined i point) = (place_for_image olds ≡ Some i) × BeginsImage setup olds point news
+BegunBy setup olds news (Refused refusal) = (is_some (place_for_image olds) ≡ true) × (refusal ≡ NoMemory) × (news ≡ olds)
 BegunBy setup olds news came = ⊥
 
 -- by the image of its publication, if there is one
@@ -121,8 +121,8 @@ abbrev pub JoinsBy : Setup → List (Option Received) → List (Option Received)
 JoinsBy setup olds news came = JoinsAs (image_with (publication_of_setup setup) olds) setup olds news came
 
 -- of bytes without a frame in front: a setup frame, or nothing comes of them
-abbrev pub Joins : List ℕ → List (Option Received) → List (Option Received) → DatagramOutcome → Type 0
-Joins datagram olds news came =
+abbrev pub JoinsIfSetup : List ℕ → List (Option Received) → List (Option Received) → DatagramOutcome → Type 0
+JoinsIfSetup datagram olds news came =
     ((setup : Setup) × IsSetup datagram setup × JoinsBy setup olds news came)
     ⊎ (HasNoSetup datagram × (came ≡ Nothing) × (news ≡ olds))
 
@@ -178,7 +178,7 @@ TakesFrames None olds fs news came = (came ≡ unknown_of fs) × (news ≡ olds)
 abbrev pub Takes : List (Option Received) → List ℕ → List (Option Received) → DatagramOutcome → Type 0
 Takes olds datagram news came =
     ((fs : List Frame) × IsDatagram datagram fs × TakesFrames (image_of fs olds) olds fs news came)
-    ⊎ ((HasNoFront datagram × Joins datagram olds news came)
+    ⊎ ((HasNoFront datagram × JoinsIfSetup datagram olds news came)
     ⊎ ((refusal : Refusal) × IsRefusedLater datagram refusal × (came ≡ Refused refusal) × (news ≡ olds)))
 
 -- ---- requests
@@ -186,17 +186,17 @@ Takes olds datagram news came =
 module _ {E : Type 0} (sends : E → List ℕ → E → Type 0) where
   -- one request was sent for what is missing first of an image, as far as there is room for it; or nothing was, and nothing is
   -- missing that there is room for
-  abbrev pub SendsRequest : Received → E → E → Bool → Type 0
-  SendsRequest image old new true = (nak : Nak) × Asks image nak × sends old (encoded_nak nak) new
-  SendsRequest image old new false = AsksNothing image × (new ≡ old)
+  abbrev pub SendsOneRequest : Received → E → E → Bool → Type 0
+  SendsOneRequest image old new true = (nak : Nak) × Asks image nak × sends old (encoded_nak nak) new
+  SendsOneRequest image old new false = AsksNothing image × (new ≡ old)
 
   abbrev pub AsksOf : Option Received → E → E → Bool → Type 0
   AsksOf None old new asked = (asked ≡ false) × (new ≡ old)
-  AsksOf (Some image) old new asked = SendsRequest image old new asked
+  AsksOf (Some image) old new asked = SendsOneRequest image old new asked
 
   -- after frames that an image took or lost it is asked for what is missing; after anything else nothing is sent
   abbrev pub AsksAfter : List (Option Received) → DatagramOutcome → E → E → Bool → Type 0
-  AsksAfter images (Frames i is_lost) old new asked = AsksOf (image_at i images) old new asked
+  AsksAfter images (Frames i is_lost) old new asked = AsksOf (received_at i images) old new asked
   AsksAfter images came old new asked = (asked ≡ false) × (new ≡ old)
 
 -- the image at a place is given back

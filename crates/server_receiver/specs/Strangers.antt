@@ -8,7 +8,7 @@ use Rattle.frame_core.specs.declared.setup.Setup.{Setup}
 use Rattle.frame_core.specs.FrameEncoding.{i32_at}
 use Rattle.frame_core.specs.Setup.{HasNoSetup, IsSetup}
 use Rattle.image_core.specs.Received.{Received}
-use Rattle.server_receiver.specs.Datagrams.{image_at, image_with}
+use Rattle.server_receiver.specs.Datagrams.{received_at, image_with}
 use Rattle.server_receiver.specs.Senders.{is_silent}
 use Rattle.server_receiver.specs.declared.senders.ImageSender.{ImageSender}
 use Rattle.server_receiver.specs.declared.strangers.Provenance.{Provenance}

@@ -8,7 +8,7 @@ ghost use Rattle.frame_core.specs.Block.{AreEncodable, publication_of};
 ghost use Rattle.frame_core.specs.Setup.{IsUsable};
 ghost use Rattle.frame_core.specs.declared.refusal.Refusal.TheVariants.{NoMemory};
 ghost use Rattle.server_receiver.specs.Resuming.{HearsAt, HearsIn, HearsStand, ResumesBy, heartbeat_of};
-ghost use Rattle.server_receiver.specs.Datagrams.{AsksAfter, AsksOf, BegunBy, GivesNext, HandledAt, HandlesFrames, HandlesIn, HasNext, IsPlaced, Joins, JoinsBy, LacksBlock, SendsRequest, Takes, TakesNext, TakesFrames, has_block_of, has_publication, image_at, image_of, image_with, is_full_image, is_full_of, join_point, place_for_next, publication_of_setup, put_image, unknown_of, vacated_at};
+ghost use Rattle.server_receiver.specs.Datagrams.{AsksAfter, AsksOf, BegunBy, GivesNextBlock, HandledAt, HandlesFrames, HandlesIn, HasNext, IsPlaced, JoinsIfSetup, JoinsBy, LacksBlock, SendsOneRequest, Takes, TakesNext, TakesFrames, has_block_of, has_publication, received_at, image_of, image_with, is_full_image, is_full_of, join_point, place_for_image, publication_of_setup, with_received_at, unknown_of, vacated_at};
 ghost use Rattle.server_receiver.specs.Strangers.{SetsUpImage, has_setup_terms, has_terms_of, image_named, named_publication};
 
 use frame_core::limits::{HEADER_LENGTH, MAX_BLOCK_LENGTH};
@@ -96,7 +96,7 @@ impl Images {
 
     /// The image at a place.
     pub fn get(&self, place: Place) -> Option<&BoundedImage>
-        ensures { option_copied result ≡ image_at place self.now }
+        ensures { option_copied result ≡ received_at place self.now }
     {
         match self.images.as_slice().get(place) {
             Some(Some(image)) => Some(image),
@@ -135,7 +135,7 @@ impl Images {
 
     /// Whether a datagram is a setup frame with the terms of the image at a place.
     pub(crate) fn sets_up(&self, place: Place, datagram: &[u8]) -> bool
-        ensures { SetsUpImage datagram.now (image_at place self.now) result }
+        ensures { SetsUpImage datagram.now (received_at place self.now) result }
     {
         match Setup::decode(datagram) {
             Ok(setup) => self.has_terms(place, &setup),
@@ -144,7 +144,7 @@ impl Images {
     }
 
     fn has_terms(&self, place: Place, setup: &Setup) -> bool
-        ensures { result ≡ has_terms_of (image_at place self.now) setup.now }
+        ensures { result ≡ has_terms_of (received_at place self.now) setup.now }
     {
         match self.get(place) {
             Some(image) => has_setup_terms(image.geometry(), setup),
@@ -154,7 +154,7 @@ impl Images {
 
     /// The place of one image more: the least without one, or the next one, of 64.
     fn place_for_next(&self) -> Option<Place>
-        ensures { result ≡ place_for_next self.now }
+        ensures { result ≡ place_for_image self.now }
     {
         match self.vacant() {
             Some(place) => Some(place),
@@ -165,7 +165,7 @@ impl Images {
 
     /// Whether there is a place for one image more.
     pub(crate) fn has_place(&self) -> bool
-        ensures { result ≡ is_some (place_for_next self.now) }
+        ensures { result ≡ is_some (place_for_image self.now) }
     {
         self.place_for_next().is_some()
     }
@@ -205,7 +205,7 @@ impl Images {
     }
 
     fn ask_of<E: DatagramEnd>(&self, end: &mut E, place: Place) -> bool
-        ensures { AsksOf E.sends (image_at place self.now) end.old end.new result }
+        ensures { AsksOf E.sends (received_at place self.now) end.old end.new result }
     {
         match self.get(place) {
             Some(image) => request(end, image),
@@ -251,7 +251,7 @@ impl Images {
     }
 
     fn take_setup(&mut self, datagram: &[u8]) -> DatagramOutcome
-        ensures { Joins datagram.now self.old self.new result }
+        ensures { JoinsIfSetup datagram.now self.old self.new result }
     {
         match Setup::decode(datagram) {
             Ok(setup) => self.join(&setup),
@@ -326,7 +326,7 @@ impl Images {
 
     /// Puts an image at the least place without one, or at the next one. `NoMemory`; nothing changes then.
     fn put(&mut self, image: BoundedImage) -> Result<(), Refusal>
-        ensures put { OnOk result (self.new ≡ put_image (position is_none self.old) image self.old) }
+        ensures put { OnOk result (self.new ≡ with_received_at (position is_none self.old) image self.old) }
         ensures memory { IfErr result (λ refusal. (refusal ≡ NoMemory) × (self.new ≡ self.old)) }
     {
         match self.vacant() {
@@ -343,7 +343,7 @@ impl Images {
 
     /// Whether an image has a block to take.
     pub fn has_block(&self, place: Place) -> bool
-        ensures { result ≡ has_block_of (image_at place self.now) }
+        ensures { result ≡ has_block_of (received_at place self.now) }
     {
         match self.get(place) {
             Some(image) => image.has_block(),
@@ -353,7 +353,7 @@ impl Images {
 
     /// Whether so much was rebuilt of an image, and not taken, that a block of it is as long as it may be.
     pub fn is_full(&self, place: Place) -> bool
-        ensures { result ≡ is_full_of (image_at place self.now) }
+        ensures { result ≡ is_full_of (received_at place self.now) }
     {
         match self.get(place) {
             Some(image) => is_full(image),
@@ -458,7 +458,7 @@ fn join_point(image: &BoundedImage) -> StreamPoint
 
 /// Takes the next block of the image at a place, if there is one. `NoMemory`; then it stays in the image.
 fn take_next(slot: &mut Option<BoundedImage>) -> Result<Option<Block>, Refusal>
-    ensures taken { IfOk result (λ found. GivesNext slot.old found slot.new) }
+    ensures taken { IfOk result (λ found. GivesNextBlock slot.old found slot.new) }
     ensures lacks { OnErr result (HasNext slot.old × (slot.new ≡ slot.old)) }
     ensures memory { IfErr result (λ refusal. refusal ≡ NoMemory) }
 {
@@ -520,7 +520,7 @@ fn heartbeat_of(setup: &Setup) -> FrameRef<'static>
 
 /// Asks once for what is missing first of an image, if something is. Whether it did.
 fn request<E: DatagramEnd>(end: &mut E, image: &BoundedImage) -> bool
-    ensures { SendsRequest E.sends image.now end.old end.new result }
+    ensures { SendsOneRequest E.sends image.now end.old end.new result }
 {
     match image.request() {
         Some(nak) => {

@@ -54,6 +54,13 @@ impl Networks {
         !self.is_any_named() || self.are_from(&from)
     }
 
+    /// Whether an address is in one of the networks: none is, if none is named. Does not allocate.
+    pub fn has(&self, address: Option<SocketAddr>) -> bool
+        ensures { result ≡ list_any (is_from_network address) self.now.networks }
+    {
+        self.are_from(&address)
+    }
+
     /// Whether an address is in one of the networks.
     fn are_from(&self, from: &Option<SocketAddr>) -> bool
         ensures { result ≡ list_any (is_from_network from.now) self.now.networks }

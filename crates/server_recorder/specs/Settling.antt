@@ -57,13 +57,13 @@ has_lasted ms None = true
 has_lasted ms (Some gone) = nat_le ms gone
 
 -- the oldest block waited for so long, or the last settling is longer ago than that
-abbrev pub is_late : ℕ → Option ℕ → Option ℕ → Option Written → Bool
-is_late every time settled_at None = false
-is_late every time settled_at (Some w) = has_lasted every (elapsed w.since time) || has_lasted (every + 1) (elapsed settled_at time)
+abbrev pub waits_too_long : ℕ → Option ℕ → Option ℕ → Option Written → Bool
+waits_too_long every time settled_at None = false
+waits_too_long every time settled_at (Some w) = has_lasted every (elapsed w.since time) || has_lasted (every + 1) (elapsed settled_at time)
 
 -- it is due by time alone
 abbrev pub is_overdue : ℕ → Option ℕ → SessionState → Bool
-is_overdue every time s = is_late every time s.settled_at s.written
+is_overdue every time s = waits_too_long every time s.settled_at s.written
 
 -- 1 MiB; or 65,536 bytes, and no further block waits
 abbrev pub is_enough : Bool → ℕ → Bool

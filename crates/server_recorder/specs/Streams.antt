@@ -21,12 +21,12 @@ stop_point d = record {
 }
 
 -- a publication that joined at a point goes on with a recording that was stopped there
-abbrev pub continues : StreamPoint → Descriptor → Bool
-continues p d = is_point p (stop_point d)
+abbrev pub continues_recording : StreamPoint → Descriptor → Bool
+continues_recording p d = is_point p (stop_point d)
 
 -- the recording that it goes on with, if that is this one
 abbrev pub continued : StreamPoint → Descriptor → Option ℤ
-continued p d = if continues p d then Some d.recording else None
+continued p d = if continues_recording p d then Some d.recording else None
 
 abbrev pub or_else : Option ℤ → Option ℤ → Option ℤ
 or_else None other = other

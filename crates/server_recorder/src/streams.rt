@@ -2,7 +2,7 @@
 //! asked".
 
 ghost use Rattle.std.specs.Prelude.{◌≡◌};
-ghost use Rattle.server_recorder.specs.Streams.{continued, continues, extend_fields, finding_for, found_before, is_passed_over, last_continued, last_resumable, last_stand, or_else, resumed_stand, segment_of, stand_before, stand_or_else, start_fields, stop_point, stopped_stand, tells_stand, told_stand};
+ghost use Rattle.server_recorder.specs.Streams.{continued, continues_recording, extend_fields, finding_for, found_before, is_passed_over, last_continued, last_resumable, last_stand, or_else, resumed_stand, segment_of, stand_before, stand_or_else, start_fields, stop_point, stopped_stand, tells_stand, told_stand};
 
 use archive_model::{Channel, Descriptor, ExtendFields, SourceIdentity, StartFields};
 use frame_core::{Geometry, Publication};
@@ -46,7 +46,7 @@ fn or_else(recording: Option<i64>, other: Option<i64>) -> Option<i64>
 
 /// Whether a publication that joined at a point goes on with a recording: this was stopped there.
 fn continues(recording: &Descriptor, point: &StreamPoint) -> bool
-    ensures { result ≡ continues point.now recording.now }
+    ensures { result ≡ continues_recording point.now recording.now }
 {
     stop_point(recording).is_at(point)
 }

@@ -10,5 +10,5 @@ abbrev pub is_idle : ℕ → Bool → Bool → Bool
 is_idle waiting is_asked is_ended = waiting == 0 && not is_asked && not is_ended
 
 -- No block waits, and none comes any more.
-abbrev pub is_over : ℕ → Bool → Bool
-is_over waiting is_ended = waiting == 0 && is_ended
+abbrev pub is_handed_over : ℕ → Bool → Bool
+is_handed_over waiting is_ended = waiting == 0 && is_ended

@@ -15,6 +15,8 @@ pub mod Resuming
 -- Which replays are open, and which recording they hold.
 pub mod ReplaysOpen
 pub mod Holding
+-- Recordings that are sent.
+pub mod Sends
 -- Places of images, and what their senders are admitted.
 pub mod Places
 -- Holes of publications.

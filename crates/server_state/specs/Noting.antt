@@ -93,24 +93,24 @@ abbrev pub image_key : ℕ → Option JoinedImage → Option ImageKey
 image_key i None = None
 image_key i (Some image) = Some (record { place = i; number = image.number })
 
-abbrev pub key_at : ℕ → PairsState → Option ImageKey
-key_at i s = image_key i (image_in i s)
+abbrev pub image_key_at : ℕ → PairsState → Option ImageKey
+image_key_at i s = image_key i (image_in i s)
 
 abbrev pub key_at_place : Option ℕ → PairsState → Option ImageKey
 key_at_place None s = None
-key_at_place (Some i) s = key_at i s
+key_at_place (Some i) s = image_key_at i s
 
 -- the image that feeds the session at a seat
 abbrev pub fed_key : ℕ → PairsState → Option ImageKey
 fed_key n s = key_at_place (image_at n s) s
 
 -- the image of a number is at the place
-abbrev pub has_number : ℕ → Option JoinedImage → Bool
-has_number number None = false
-has_number number (Some image) = image.number == number
+abbrev pub image_has_number : ℕ → Option JoinedImage → Bool
+image_has_number number None = false
+image_has_number number (Some image) = image.number == number
 
 abbrev pub has_key : ImageKey → PairsState → Bool
-has_key key s = has_number key.number (image_in key.place s)
+has_key key s = image_has_number key.number (image_in key.place s)
 
 -- the session at a seat
 abbrev pub seated : ℕ → Option SessionSlot → Option FedSession
@@ -133,8 +133,8 @@ abbrev pub is_lost_image : Option JoinedImage → Bool
 is_lost_image None = false
 is_lost_image (Some image) = image.is_lost
 
-abbrev pub is_over : ℕ → PairsState → Bool
-is_over i s = is_lost_image (image_in i s)
+abbrev pub is_over_at : ℕ → PairsState → Bool
+is_over_at i s = is_lost_image (image_in i s)
 
 -- the image at a place, if it waits for a session: it feeds none, and was not lost
 abbrev pub waits : ℕ → JoinedImage → PairsState → Option JoinedImage

@@ -18,7 +18,7 @@ use Rattle.metrics_text.specs.declared.measures.ReplayMeasures.{ReplayMeasures}
 use Rattle.server_state.specs.Listing.{with_number}
 use Rattle.server_state.specs.declared.known_replay.KnownReplay.{KnownReplay}
 use Rattle.server_state.specs.declared.known_replay.ReplayReader.{ReplayReader}
-use Rattle.server_state.specs.declared.known_replay.ReplayReader.TheVariants.{Follow, Line}
+use Rattle.server_state.specs.declared.known_replay.ReplayReader.TheVariants.{Follow, Line, Send}
 
 -- ---- what an answer opens
 
@@ -47,8 +47,8 @@ AddsReplay (Some r) old new = (new ≡ old ++ r ∷ []) ⊎ (new ≡ old)
 -- ---- what an answer changes
 
 -- a replay has a number
-abbrev pub has_number : ℤ → KnownReplay → Bool
-has_number number r = int_eq r.number number
+abbrev pub replay_has_number : ℤ → KnownReplay → Bool
+replay_has_number number r = int_eq r.number number
 
 -- a position, or another one if it is not known
 abbrev pub known_or : Option ℤ → Option ℤ → Option ℤ
@@ -92,7 +92,7 @@ polled_at None frames next rs = rs
 polled_at (Some i) frames next rs = polled_in i (slice_get rs i) frames next rs
 
 abbrev pub after_polling : ℤ → List PolledFrame → Option ℤ → List KnownReplay → List KnownReplay
-after_polling number frames next rs = polled_at (position (has_number number) rs) frames next rs
+after_polling number frames next rs = polled_at (position (replay_has_number number) rs) frames next rs
 
 -- the replay of a number is open no longer
 abbrev pub replays_without : Option ℕ → List KnownReplay → List KnownReplay
@@ -100,7 +100,7 @@ replays_without None rs = rs
 replays_without (Some i) rs = remove rs i
 
 abbrev pub after_closing : ℤ → List KnownReplay → List KnownReplay
-after_closing number rs = replays_without (position (has_number number) rs) rs
+after_closing number rs = replays_without (position (replay_has_number number) rs) rs
 
 -- a poll moves its replay on, and one that is closed, or that the archive does not know when it is to be closed, is gone
 abbrev pub after_answer : Event → Result Reply Refusal → List KnownReplay → List KnownReplay
@@ -131,7 +131,7 @@ moved_at (Some i) number p rs = moved_in i (slice_get rs i) number p rs
 
 -- the replay of a number has another one now
 abbrev pub after_moving : ℤ → ℤ → ℤ → List KnownReplay → List KnownReplay
-after_moving before number p rs = moved_at (position (has_number before) rs) number p rs
+after_moving before number p rs = moved_at (position (replay_has_number before) rs) number p rs
 
 -- ---- what is printed and measured
 
@@ -148,6 +148,7 @@ bound_or_none (Some p) size = if int_lt size (pos 0) then negsuc 0 else bound_of
 abbrev pub reader_text : ReplayReader → List ℕ
 reader_text Line = codes "line"
 reader_text Follow = codes "follow"
+reader_text Send = codes "send"
 
 abbrev pub address_text : Option SocketAddr → List ℕ
 address_text None = codes "-"

@@ -7,6 +7,7 @@ use crate::gap_news::GapNews;
 use crate::image_news::ImageNews;
 use crate::place_news::PlaceNews;
 use crate::resume_news::ResumeNews;
+use crate::send_news::SendNews;
 use crate::session_news::SessionNews;
 use std::fmt;
 use std::net::SocketAddr;
@@ -26,6 +27,11 @@ pub enum Happening<'a> {
         /// Where these lines come to.
         consumers: SocketAddr,
     },
+    /// The port is bound that recordings are sent from.
+    BoundSending {
+        /// Where their datagrams come from.
+        send: SocketAddr,
+    },
     /// Something of the archive.
     Archive(ArchiveNews),
     /// Something of an image, or of the places of images.
@@ -40,6 +46,8 @@ pub enum Happening<'a> {
     Session(SessionNews),
     /// Something of a client.
     Client(ClientNews<'a>),
+    /// Something of a recording that is sent.
+    Sending(SendNews),
     /// The server ends.
     Ended(Counted),
 }
@@ -55,6 +63,7 @@ impl Happening<'_> {
             Happening::Place(news) => news.is_fault(),
             Happening::Session(news) => news.is_fault(),
             Happening::Client(news) => news.is_fault(),
+            Happening::Sending(news) => news.is_fault(),
             _ => false,
         }
     }
@@ -77,6 +86,7 @@ impl fmt::Display for Happening<'_> {
             Happening::BoundConsumers { consumers } => {
                 write!(f, "lines of consumers on {consumers}")
             }
+            Happening::BoundSending { send } => write!(f, "recordings are sent from {send}"),
             Happening::Archive(news) => write!(f, "{news}"),
             Happening::Image(news) => write!(f, "{news}"),
             Happening::Gap(news) => write!(f, "{news}"),
@@ -84,6 +94,7 @@ impl fmt::Display for Happening<'_> {
             Happening::Place(news) => write!(f, "{news}"),
             Happening::Session(news) => write!(f, "{news}"),
             Happening::Client(news) => write!(f, "{news}"),
+            Happening::Sending(news) => write!(f, "{news}"),
             Happening::Ended(counted) => write!(f, "ended: {counted}"),
         }
     }

@@ -14,6 +14,8 @@ pub enum ReplayReader {
     Line,
     /// A follower.
     Follow,
+    /// A receiver that the recording is sent to.
+    Send,
 }
 
 impl ReplayReader {
@@ -24,6 +26,7 @@ impl ReplayReader {
         match self {
             ReplayReader::Line => "line",
             ReplayReader::Follow => "follow",
+            ReplayReader::Send => "send",
         }
     }
 }
@@ -43,7 +46,7 @@ pub struct KnownReplay {
     pub length: i64,
     /// Who takes its frames.
     pub reader: ReplayReader,
-    /// Where their connection comes from. None if it was gone before it was looked at.
+    /// Where their connection comes from, or where datagrams go to. None if the connection was gone before it was looked at.
     pub address: Option<SocketAddr>,
 }
 

@@ -5,7 +5,7 @@ ghost use Rattle.std.specs.List.{position};
 ghost use Rattle.stream_pairs.specs.Pairs.{feeds, seat_of};
 ghost use Rattle.server_state.specs.Places.{open_position, settled_of};
 ghost use Rattle.server_state.specs.Resuming.{GoesOnAt, seat_stand};
-ghost use Rattle.server_state.specs.Noting.{ReportsMisfit, ReportsNext, after_noted, after_refusing, fed_key, fed_session, has_key, image_key, is_over, is_reported, is_unfed, key_at, lost_key, misfit_at, misfit_of, misfit_with, unreported_misfit, waiting_image, waiting_with, waits, seated_session, fed_at, unreported_image};
+ghost use Rattle.server_state.specs.Noting.{ReportsMisfit, ReportsNext, after_noted, after_refusing, fed_key, fed_session, has_key, image_key, is_over_at, is_reported, is_unfed, image_key_at, lost_key, misfit_at, misfit_of, misfit_with, unreported_misfit, waiting_image, waiting_with, waits, seated_session, fed_at, unreported_image};
 
 use crate::noting::note;
 use crate::resuming::{Stand, slot_stand};
@@ -163,7 +163,7 @@ impl Pairing {
 
     /// The image at a place.
     pub fn key_at(&self, place: Place) -> Option<ImageKey>
-        ensures { result ≡ key_at place self.now.pairs }
+        ensures { result ≡ image_key_at place self.now.pairs }
     {
         image_key(place, self.pairs.image(place))
     }
@@ -224,7 +224,7 @@ impl Pairing {
 
     /// Whether the place of an image may be given back, whether it is live or not: it was lost, or its session has ended.
     pub fn is_over(&self, place: Place) -> bool
-        ensures { result ≡ is_over place self.now.pairs }
+        ensures { result ≡ is_over_at place self.now.pairs }
     {
         match self.pairs.image(place) {
             Some(image) => image.is_lost,

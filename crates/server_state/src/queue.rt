@@ -4,7 +4,7 @@
 
 ghost use Rattle.std.specs.Prelude.{◌≡◌, [], ◌∷◌, ◌++◌, ◌||◌, false, length, not, replicate, true, IfErr, IfOk, OnOk};
 ghost use Rattle.server_state.specs.Asking.{all_taken, is_any_asked};
-ghost use Rattle.server_state.specs.Handing.{is_idle, is_over, may_put};
+ghost use Rattle.server_state.specs.Handing.{is_idle, is_handed_over, may_put};
 
 use crate::asking::Asks;
 use crate::pairing::ImageKey;
@@ -158,7 +158,7 @@ impl Waiting {
           asked = self.old.asks.asked;
           leaving = self.old.leaves.asked;
           records = self.old.records.asked;
-          is_over = is_over (length self.old.blocks.items) self.old.is_ended;
+          is_over = is_handed_over (length self.old.blocks.items) self.old.is_ended;
         } }
         ensures left { self.new ≡ record self.old
             { blocks = batch.old; is_awaited = false; asks = all_taken self.old.asks; leaves = all_taken self.old.leaves; records = all_taken self.old.records } }

@@ -2,7 +2,7 @@
 
 ghost use Rattle.std.specs.Prelude.{◌≡◌, slice_get, slice_set};
 ghost use Rattle.std.specs.List.{position};
-ghost use Rattle.server_state.specs.ReplaysOpen.{AddsReplay, NotesAnswer, after_answer, after_closing, after_moving, replay_after_poll, after_polling, asked_position, frame_end_of, has_number, known_or, last_end, replay_moved_to, opened_by, polled_from, position_after};
+ghost use Rattle.server_state.specs.ReplaysOpen.{AddsReplay, NotesAnswer, after_answer, after_closing, after_moving, replay_after_poll, after_polling, asked_position, frame_end_of, replay_has_number, known_or, last_end, replay_moved_to, opened_by, polled_from, position_after};
 
 use crate::known_replay::{KnownReplay, ReplayReader};
 use crate::replay_lines::{measures_of, replays_held, replays_text};
@@ -98,7 +98,7 @@ impl KnownReplays {
     }
 
     fn index_of(&self, number: &i64) -> Option<usize>
-        ensures { result ≡ position (has_number number.now) self.now }
+        ensures { result ≡ position (replay_has_number number.now) self.now }
     {
         index_in(self.replays.as_slice(), number)
     }
@@ -135,14 +135,14 @@ fn remove(replays: &mut Vec<KnownReplay>, number: &i64)
 
 /// Where the replay of a number is among these.
 fn index_in(replays: &[KnownReplay], number: &i64) -> Option<usize>
-    ensures { result ≡ position (has_number number.now) replays.now }
+    ensures { result ≡ position (replay_has_number number.now) replays.now }
 {
     replays.iter().position(|replay| has_number(number, replay))
 }
 
 /// Whether a replay has a number.
 fn has_number(number: &i64, replay: &KnownReplay) -> bool
-    ensures { result ≡ has_number number.now replay.now }
+    ensures { result ≡ replay_has_number number.now replay.now }
 {
     replay.number == *number
 }
@@ -279,7 +279,7 @@ impl OpenReplays {
         self.known.lock(rt).note(event, outcome, address);
     }
 
-    /// A follower's replay is open. If there is no memory for it, it is not known.
+    /// A follower's replay is open, or that of a sending. If there is no memory for it, it is not known.
     pub fn follow<R: Wait>(&self, rt: &R, replay: KnownReplay) {
         self.known.lock(rt).add(Some(replay));
     }

@@ -14,6 +14,7 @@ use crate::measuring::recordings_of;
 use crate::meter::Meter;
 use crate::naming::named_word;
 use crate::noting::settle;
+use crate::open_sends::OpenSends;
 use crate::origins::{Found, Origin, Origins};
 use crate::pairing::{FedSession, ImageKey, Misfit, Pairing};
 use crate::place_counts::PlaceCounts;
@@ -109,6 +110,8 @@ pub struct Shared<T> {
     pub checkpointing: Checkpointing,
     /// Which replays are open.
     pub replays: OpenReplays,
+    /// Which recordings are sent.
+    pub sends: OpenSends,
     ends: AtomicBool,
     looks_round: AtomicBool,
     holds: AtomicBool,
@@ -144,6 +147,7 @@ impl<T: Reporter> Shared<T> {
             meter: Meter::new(options.is_measured),
             checkpointing: Checkpointing::new(options.makes_checkpoints),
             replays: OpenReplays::new(alloc),
+            sends: OpenSends::new(alloc),
             ends: AtomicBool::new(false),
             looks_round: AtomicBool::new(false),
             holds: AtomicBool::new(false),
@@ -256,6 +260,8 @@ impl<T: Reporter> Shared<T> {
             recordings,
             replays: self.replays.measures(rt, alloc)?,
             images,
+            sending: self.sends.counted(rt),
+            sends: self.sends.measures(rt, alloc)?,
         })
     }
 

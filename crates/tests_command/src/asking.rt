@@ -201,9 +201,9 @@ fn what_a_server_answers(rt: HostRuntime) {
     for (lines, until, replies, told, status) in [
         ("sweep", None, "swept 0\n", "", 0),
         (
-            "list 0 9|poll 0 2|images|replays|merge-take|merge-take|sweep",
+            "list 0 9|poll 0 2|images|replays|sends|send 0|merge-take|merge-take|sweep",
             None,
-            "recording 0\nend 1\nframe 0 00\nmore 64\nimage 0\nend 1\nopen 0\nopen 1\nend 2\nframe 0 00\nnone\nswept 0\n",
+            "recording 0\nend 1\nframe 0 00\nmore 64\nimage 0\nend 1\nopen 0\nopen 1\nend 2\nsend 0\nsend 1\nend 2\nsending 2\nframe 0 00\nnone\nswept 0\n",
             "",
             0,
         ),

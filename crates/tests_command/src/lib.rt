@@ -11,6 +11,8 @@ mod folders;
 #[cfg(test)]
 mod operating;
 #[cfg(test)]
+mod sending;
+#[cfg(test)]
 mod serving;
 #[cfg(test)]
 mod when;

@@ -3,7 +3,7 @@
 use metrics_text::{
     ArchiveMeasures, ClientMeasures, DatagramMeasures, ImageMeasures, Measures, PlaceMeasures,
     RecorderAbout, RecorderMeasures, RecordingMeasures, RefusedMeasures, ReplayMeasures,
-    ResumeMeasures, SettleTimes, print_metrics,
+    ResumeMeasures, SendMeasures, SendsMeasures, SettleTimes, print_metrics,
 };
 use std::alloc::{AllocError, Global};
 use std::test::*;
@@ -25,7 +25,7 @@ aeron_recorder_archive_broken{recorder=\"a-1\"} 0
 ";
 
 /// Lines that it has.
-const LINES: [&str; 24] = [
+const LINES: [&str; 26] = [
     "aeron_recorder_history_limit_entries{recorder=\"a-1\"} 1048576\n",
     "# TYPE aeron_recorder_checkpoints_total counter\naeron_recorder_checkpoints_total{recorder=\"a-1\"} 7\n# HELP aeron_recorder_checkpoints_refused_total Checkpoints that were refused.\n# TYPE aeron_recorder_checkpoints_refused_total counter\naeron_recorder_checkpoints_refused_total{recorder=\"a-1\"} 1\n",
     "# TYPE aeron_recorder_recorded_bytes_total counter\naeron_recorder_recorded_bytes_total{recorder=\"a-1\"} 18446744073709551615\n",
@@ -50,6 +50,8 @@ const LINES: [&str; 24] = [
     "aeron_recorder_gap_seconds{recorder=\"a-1\",image=\"12\",stream=\"-5\",session=\"8\"} 0.250000\n",
     "aeron_recorder_gap_bytes{recorder=\"a-1\",image=\"0\",stream=\"1001\",session=\"-7\"} 0\naeron_recorder_gap_bytes{recorder=\"a-1\",image=\"12\",stream=\"-5\",session=\"8\"} 250\n",
     "# TYPE aeron_recorder_publication_hole_bytes gauge\naeron_recorder_publication_hole_bytes{recorder=\"a-1\",stream=\"1001\",session=\"-7\"} 0\naeron_recorder_publication_hole_bytes{recorder=\"a-1\",stream=\"-5\",session=\"8\"} 768\n",
+    "aeron_recorder_sends{recorder=\"a-1\"} 1\n# HELP aeron_recorder_sent_datagrams_total Datagrams of recordings that were sent.\n# TYPE aeron_recorder_sent_datagrams_total counter\naeron_recorder_sent_datagrams_total{recorder=\"a-1\"} 41\n# HELP aeron_recorder_sent_bytes_total Bytes of such datagrams.\n# TYPE aeron_recorder_sent_bytes_total counter\naeron_recorder_sent_bytes_total{recorder=\"a-1\"} 42\n# HELP aeron_recorder_sent_again_total Datagrams of recordings that were repeated.\n# TYPE aeron_recorder_sent_again_total counter\naeron_recorder_sent_again_total{recorder=\"a-1\"} 43\n# HELP aeron_recorder_naks_received_total NAK frames of receivers that came.\n# TYPE aeron_recorder_naks_received_total counter\naeron_recorder_naks_received_total{recorder=\"a-1\"} 44\n# HELP aeron_recorder_status_messages_received_total Status messages of receivers that came.\n# TYPE aeron_recorder_status_messages_received_total counter\naeron_recorder_status_messages_received_total{recorder=\"a-1\"} 45\n# HELP aeron_recorder_foreign_feedback_total Datagrams that came and count for no sending.\n# TYPE aeron_recorder_foreign_feedback_total counter\naeron_recorder_foreign_feedback_total{recorder=\"a-1\"} 46\n# HELP aeron_recorder_sender_position_bytes Up to where a recording was sent.\n# TYPE aeron_recorder_sender_position_bytes gauge\naeron_recorder_sender_position_bytes{recorder=\"a-1\",send=\"2\",recording=\"3\",stream=\"1001\",session=\"-7\"} 8192\n",
+    "# TYPE aeron_recorder_sender_limit_bytes gauge\naeron_recorder_sender_limit_bytes{recorder=\"a-1\",send=\"2\",recording=\"3\",stream=\"1001\",session=\"-7\"} 139264\n# HELP aeron_recorder_consumed_by_receiver_bytes Up to where a receiver has consumed a recording.\n# TYPE aeron_recorder_consumed_by_receiver_bytes gauge\naeron_recorder_consumed_by_receiver_bytes{recorder=\"a-1\",send=\"2\",recording=\"3\",stream=\"1001\",session=\"-7\"} 4096\n",
 ];
 
 fn measures(alloc: Global) -> Result<Measures, AllocError> {
@@ -127,6 +129,26 @@ fn measures(alloc: Global) -> Result<Measures, AllocError> {
         images: vec![in alloc;
             image(0, 1_001, -7, 65_536, 0),
             image(12, -5, 8, 0, 250_000),
+        ]?,
+        sending: SendsMeasures {
+            live: 1,
+            datagrams: 41,
+            bytes: 42,
+            repeats: 43,
+            naks: 44,
+            status_messages: 45,
+            foreign: 46,
+        },
+        sends: vec![in alloc;
+            SendMeasures {
+                send: 2,
+                recording: 3,
+                stream_id: 1_001,
+                session_id: -7,
+                position: 8_192,
+                limit: 139_264,
+                consumed: 4_096,
+            },
         ]?,
     })
 }

@@ -125,6 +125,28 @@ impl Client {
         false
     }
 
+    /// Asks at most 1,000 times until this line is answered, and then another one, which comes second each time. Whether they were.
+    pub(crate) fn awaits_two<R: Clock>(
+        &mut self,
+        rt: &R,
+        alloc: Global,
+        line: &str,
+        answer: &str,
+        second: &str,
+    ) -> bool {
+        for _ in 0..1_000 {
+            let is_answered = self.asks(alloc, line, answer);
+            if !self.hears(alloc, second) {
+                return false;
+            }
+            if is_answered {
+                return true;
+            }
+            thread::sleep(rt, Duration::from_millis(2));
+        }
+        false
+    }
+
     /// Sends a datagram.
     pub(crate) fn casts(&self, datagram: &[u8]) -> bool {
         self.socket.send_to(datagram, self.receive).is_ok()

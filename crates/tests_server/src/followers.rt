@@ -15,7 +15,7 @@ use std::test::Fail;
 use std::thread::{self, Threads};
 
 /// A recording of two messages, which is stopped.
-const RECORDED: &str = "asks start 1001 7 42 65536 1408 65536 0 1000 c: started 0 0
+pub(crate) const RECORDED: &str = "asks start 1001 7 42 65536 1408 65536 0 1000 c: started 0 0
 asks block 0 2500000000c001000000000007000000e90300002a000000000000000000000068656c6c6f: settled 64
 asks block 0 2500000000c001004000000007000000e90300002a000000000000000000000068656c6c6f: settled 128
 asks stop 0 5: stopped 128
@@ -23,7 +23,7 @@ asks stop 0 5: stopped 128
 
 /// A disk that is opened again as it was.
 #[derive(Drop)]
-struct Copies(MemoryDisk);
+pub(crate) struct Copies(pub MemoryDisk);
 
 impl Openings<MemoryDisk> for Copies {
     fn can_open(&self) -> bool {
@@ -51,7 +51,7 @@ impl Flusher for Copies {
 }
 
 /// A heartbeat of the recording with these flags, at an offset of its term of so many times 64 bytes.
-fn sign(flags: u8, index: u8) -> [u8; 32] {
+pub(crate) fn sign(flags: u8, index: u8) -> [u8; 32] {
     let mut bytes = [0; 32];
     bytes[5] = flags;
     bytes[6] = 1;
@@ -64,7 +64,7 @@ fn sign(flags: u8, index: u8) -> [u8; 32] {
 }
 
 /// The message at such an offset as a follower is sent it.
-fn sent(index: u8) -> [u8; 64] {
+pub(crate) fn sent(index: u8) -> [u8; 64] {
     let mut bytes = [0; 64];
     for (to, from) in bytes.iter_mut().zip(hello(index).as_slice()) {
         *to = *from;

@@ -36,6 +36,8 @@ mod recorded;
 #[cfg(test)]
 mod resumed;
 #[cfg(test)]
+mod sendings;
+#[cfg(test)]
 mod serving;
 #[cfg(test)]
 mod settles;

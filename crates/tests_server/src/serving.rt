@@ -174,6 +174,7 @@ pub(crate) fn bound<R: Net<Listener = TcpListener, Stream = TcpStream>>(
         control,
         consumers: None,
         datagrams,
+        sending: None,
     };
     Some((ends, ports))
 }

@@ -24,10 +24,10 @@ use Rattle.tool_core.specs.declared.observer.Beginning.{Beginning}
 use Rattle.tool_core.specs.declared.observer.Beginning.TheVariants as beginnings
 use Rattle.tool_core.specs.declared.archive.ScriptArchive.{ScriptArchive}
 use Rattle.tool_core.specs.Archives.{BeginsAs, Closed, Open, SeenArchive, archive_seen, closed_by, life_of}
-use Rattle.tool_core.specs.Script.{Begins, HasNotBegun, IsRefused, IsRefusedBy, OpensBanks, OpensStanding}
+use Rattle.tool_core.specs.Left.{IsRefused, IsRefusedBy}
+use Rattle.tool_core.specs.Script.{Begins, HasNotBegun, BeginsWithBanks, OpensStanding}
 use Rattle.tool_core.specs.ScriptLines.{Standing, closed, doubtful, opened, refused, unknown}
-use Rattle.tool_core.proofs.BanksLemmas.{IsBanksOf}
-use Rattle.tool_core.proofs.StandingLemmas.{IsStanding, recovers_as}
+use Rattle.tool_core.proofs.StandingLemmas.{IsBanksOf, IsStanding, recovers_as}
 use Rattle.tool_core.proofs.OpeningLemmas.{OneState, begun, fault_leaves, quiet_restarts}
 use Rattle.tool_core.proofs.RefusedLemmas.{no_catalogue, refused_once, refused_still}
 
@@ -94,7 +94,7 @@ unmade : (old : Life) (disk : Life) (first : Standing) (banks : Banks) → MayLe
 unmade old disk first banks may no_archive obeys (inl blank) = record {
   begun = unknown;
   stands = tt;
-  told = λ certain. absurd cc;
+  told = tt;
   is = inr (no_archive.0, subst (λ (s : Standing). HasNotBegun old s unknown) (sym blank.1) blank.0);
   any_moment = λ s u leaves. absurd (nothing_left old s u may blank.0 leaves);
 }
@@ -107,7 +107,7 @@ unmade old disk first banks may (failed, inl quiet) obeys (inr files) = by first
     by : (first : Standing) → OpensStanding old first → Starts old (Closed disk) first banks
     by (opened a) restarts = record {
       begun = doubtful restarts.state restarts.other;
-      told = λ certain. absurd cc;
+      told = tt;
       stands = quiet_leaves old disk restarts.state restarts.other quiet restarts.leaves;
       is = inr (failed, (restarts.state, restarts.other, restarts.leaves, inl (refl, refl)));
       any_moment = any;
@@ -116,7 +116,7 @@ unmade old disk first banks may (failed, inl quiet) obeys (inr files) = by first
     by (doubtful s u) opens = absurd opens
     by (refused image why) opens = record {
       begun = refused image why;
-      told = λ certain. absurd cc;
+      told = tt;
       stands = quiet_opens old disk (refused image why) quiet opens;
       is = inl refl;
       any_moment = any;
@@ -125,18 +125,18 @@ unmade old disk first banks may (failed, inl quiet) obeys (inr files) = by first
 
 -- ---- files that were there
 
-opened_files : OneState → (old : Life) (engine : EngineState) (stopped : ℤ) (first : Standing) (banks : Banks) → HasOpened old engine stopped → IsTrue engine.life.obeys → OpensStanding old first → OpensBanks old first banks → Starts old (Open engine) first banks
+opened_files : OneState → (old : Life) (engine : EngineState) (stopped : ℤ) (first : Standing) (banks : Banks) → HasOpened old engine stopped → IsTrue engine.life.obeys → OpensStanding old first → BeginsWithBanks old first banks → Starts old (Open engine) first banks
 opened_files one_state old engine stopped first banks answer obeys opens told = by first opens told
   where
     any : (s u : State) → LeavesEither old s u → LeavesOnly old engine.life (RecoversTo (IsNear s u))
     any s u leaves = let o = answer.opened s u leaves obeys in o.any_moment
 
-    by : (first : Standing) → OpensStanding old first → OpensBanks old first banks → Starts old (Open engine) first banks
+    by : (first : Standing) → OpensStanding old first → BeginsWithBanks old first banks → Starts old (Open engine) first banks
     by (opened a) restarts told =
         let at = begun one_state old engine stopped a restarts (answer.opened restarts.state restarts.other restarts.leaves obeys) in
         record {
           begun = opened a;
-          stands = record { desk = at.desk; consistent = at.consistent };
+          stands = at;
           told = told_once (reads old.now) banks (banks_of engine.log) told (answer.banks obeys);
           is = inl refl;
           any_moment = any;
@@ -158,7 +158,7 @@ refused_files old disk refusal first banks other answer obeys opens = by first o
     still_refused : (image : DiskImage) (why : Refusal) → IsRefused old image why → (refusal ≡ DeviceFault → ⊥) → Starts old (Closed disk) (refused image why) banks
     still_refused image why is no_fault =
         let before : ReadsAsBefore old disk = elim answer.refuses.kept [ inl fault ↦ absurd (no_fault fault) | inr before ↦ before ] in
-        record { begun = refused image why; stands = refused_still old disk image why before.same is; told = λ certain. absurd cc; is = inl refl; any_moment = any }
+        record { begun = refused image why; stands = refused_still old disk image why before.same is; told = tt; is = inl refl; any_moment = any }
 
     by : (first : Standing) → OpensStanding old first → Starts old (Closed disk) first banks
     by (opened a) restarts =
@@ -166,7 +166,7 @@ refused_files old disk refusal first banks other answer obeys opens = by first o
         elim whole.1 [
           | inl fault ↦ (let left = fault_leaves old disk restarts.state restarts.other whole.0 in record {
             begun = doubtful left.0 left.1;
-            told = λ certain. absurd cc;
+            told = tt;
             stands = left.2;
             is = inr (failed fault, (restarts.state, restarts.other, restarts.leaves, left.3));
             any_moment = any;
@@ -179,7 +179,7 @@ refused_files old disk refusal first banks other answer obeys opens = by first o
         elim (refused_once old why refusal is.0 (answer.refuses.catalogue obeys)) [
           | inl same ↦ still_refused image why is (λ fault. not_fault why is.0 (sym same ∙ fault))
           | inr (inl memory) ↦ absurd (other memory)
-          | inr (inr fault) ↦ record { begun = unknown; stands = tt; told = λ certain. absurd cc; is = inr (failed fault, tt); any_moment = any }
+          | inr (inr fault) ↦ record { begun = unknown; stands = tt; told = tt; is = inr (failed fault, tt); any_moment = any }
         ]
       where
         not_fault : (why : Refusal) → IsRefusedBy old why → why ≡ DeviceFault → ⊥

@@ -6,7 +6,6 @@ use Rattle.std.specs.Prelude.{Option, None, count_by}
 use Rattle.disk_core.specs.DiskImage.{DiskImage, Files, MayLeave, begun, durable, reads}
 use Rattle.disk_core.specs.Life.{Life}
 use Rattle.disk_core.proofs.CallerLemmas.{durable_left}
-use Rattle.archive_model.specs.declared.version.BankVersion.{BankVersion}
 use Rattle.archive_model.specs.declared.command.Command.TheVariants.{Restart}
 use Rattle.archive_model.specs.Commands.{after}
 use Rattle.archive_model.specs.State.{State, active_count}
@@ -19,9 +18,11 @@ use Rattle.catalogue_entries.specs.Fold.{counts}
 use Rattle.control_core.specs.Exact.{Archive, opened_archive}
 use Rattle.engine_core.specs.Opened.{IsFresh, LeavesEither}
 use Rattle.engine_core.specs.Recovery.{IsEither, Recovers, RecoversTo}
-use Rattle.tool_core.specs.Script.{GoesOnFrom, GoesOnFromEither, LeavesArchive, LeavesBanks, LeavesOpened, LeavesStanding}
-use Rattle.tool_core.specs.ScriptLines.{doubtful, opened}
+use Rattle.tool_core.specs.Left.{LeavesArchive, LeavesBanks, LeavesShut, LeavesStanding}
+use Rattle.tool_core.specs.Script.{GoesOnFrom, GoesOnFromEither}
+use Rattle.tool_core.specs.ScriptLines.{closed_in, doubtful, opened}
 use Rattle.tool_core.proofs.BeginLemmas.{catalogue_is_there}
+use Rattle.tool_core.proofs.OpeningLemmas.{leaves_one, reopened_fresh}
 use Rattle.tool_core.proofs.StandingLemmas.{recovers_as}
 
 goes_on : (life : Life) (a : Archive) (b : Banks) (left : LeavesArchive life a) → Recovers (reads life.now) a.state → IsCatalogue (reads life.now) left.header left.entries → TellsBanks (reads life.now) b → GoesOnFrom a b life
@@ -30,23 +31,16 @@ goes_on life a b left was catalogue told = inr (
   record {
     state = a.state;
     other = a.state;
-    leaves = λ image may. record { state = a.state; is = inl refl; recovers = left.recovers image may };
+    leaves = leaves_one life a left;
     recovers = was;
-    fresh = record {
-      header = left.header;
-      entries = left.entries;
-      catalogue = catalogue;
-      is = ap (λ (n : ℕ). opened_archive (after a.state Restart) n a.desk.limit a.desk.version) left.counted
-          ∙ ap (λ (n : ℕ). opened_archive (after a.state Restart) (count_by counts left.entries) n a.desk.version) left.limit
-          ∙ ap (λ (v : BankVersion). opened_archive (after a.state Restart) (count_by counts left.entries) left.header.history_limit v) left.version;
-    };
+    fresh = reopened_fresh life (reads life.now) a left catalogue;
   },
   told,
 )
 
 -- in which nothing is in doubt
 certain : (life : Life) (a : Archive) → a.doubt ≡ None → LeavesStanding life (opened a) → LeavesArchive life a
-certain life a none leaves = subst (λ (o : Option State). LeavesOpened life a o) none leaves
+certain life a none leaves = subst (λ (o : Option State). LeavesShut life (closed_in a o)) none leaves
 
 pub on_its_disk : (life : Life) (a : Archive) (b : Banks) → a.doubt ≡ None → LeavesStanding life (opened a) → LeavesBanks life b → MayLeave life.now (reads life.now) → GoesOnFrom a b life
 on_its_disk life a b none leaves banks may =

@@ -7,14 +7,12 @@ mod EndLemmas
 mod GoesOnLemmas
 mod StandingLemmas
 pub mod CallLemmas
-mod RecordLemmas
 mod RefusedLemmas
 mod OpeningLemmas
 mod BanksLemmas
 mod RestartLemmas
 mod CompactLemmas
 mod BeginLemmas
-mod LineLemmas
 mod CheckpointLemmas
 mod ScriptLemmas
 mod WholeLemmas

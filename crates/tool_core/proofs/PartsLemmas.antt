@@ -9,11 +9,11 @@ use Rattle.std.proofs.lemmas.Bool.{false≢true}
 use Rattle.std.proofs.lemmas.List.{take_more}
 use Rattle.std.proofs.lemmas.List.Elements.{All-append, All-head, All-tail}
 use Rattle.tool_core.specs.InputLines.{lines_of, kept, NextLine, ReadsLine}
-use Rattle.tool_core.specs.Parts.{HasNoEnd, Grows, MovesText}
+use Rattle.tool_core.specs.Parts.{HasNoEnd, LineGrows, MovesText}
 
 -- what was shown first is consumed: a text, and what ends it
 pub MovesText-shown : (a b c line_old line_new : Option (List ℕ)) (limit : Option ℕ) (shown : List ℕ) (n : ℕ) (text end : List ℕ)
-    → n ≤ length shown → take n shown ≡ text ++ end → HasNoEnd text → Grows line_old line_new text
+    → n ≤ length shown → take n shown ≡ text ++ end → HasNoEnd text → LineGrows line_old line_new text
     → IfSome a (λ xs. StartsWith xs shown) → IfSome a (λ xs. length shown ≡ 0 → xs ≡ []) → Keeps a b
     → IfSome a (λ _. IfSome limit (λ k. length shown ≤ k)) → DropsConsumable b c limit n
     → MovesText a c line_old line_new end

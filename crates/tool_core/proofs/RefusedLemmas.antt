@@ -9,7 +9,7 @@ use Rattle.catalogue_log.specs.declared.bank.BankHeader.{BankHeader}
 use Rattle.catalogue_entries.specs.declared.entry.Entry.{Entry}
 use Rattle.catalogue_log.specs.Catalogue.{IsCatalogue, IsOfNoImage, RefusesCatalogue}
 use Rattle.catalogue_log.proofs.CallerLemmas as catalogues
-use Rattle.tool_core.specs.Script.{IsRefused, IsRefusedBy}
+use Rattle.tool_core.specs.Left.{IsRefused, IsRefusedBy}
 
 -- it is the same by what the disk reads as
 refused_as : (old new : Life) (why : Refusal) → reads old.now ≡ reads new.now → IsRefusedBy old why → IsRefusedBy new why

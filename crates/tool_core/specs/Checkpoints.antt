@@ -1,5 +1,5 @@
 -- When a checkpoint is due, and what a script that makes checkpoints does before each line: docs/STORAGE.md, "Checkpoints".
-use Rattle.std.specs.Prelude.{◌≡◌, ℕ, Bool, true, false, ◌&&◌, ◌-◌, ◌*◌, nat_lt, nat_le, MatchBool, Result, Ok, ◌⊎◌}
+use Rattle.std.specs.Prelude.{◌≡◌, ℕ, Bool, true, false, ◌&&◌, ◌-◌, ◌*◌, nat_lt, nat_le, MatchBool, Result, ◌⊎◌}
 use Rattle.frame_core.specs.declared.refusal.Refusal.{Refusal}
 use Rattle.disk_core.specs.declared.disk.Disk as Disk
 use Rattle.disk_core.specs.Life.{Life}
@@ -7,13 +7,13 @@ use Rattle.archive_model.specs.declared.reply.Reply.{Reply}
 use Rattle.archive_model.specs.Register.{active_count}
 use Rattle.control_core.specs.declared.event.Event.TheVariants as events
 use Rattle.control_core.specs.Desk.{DeskState}
-use Rattle.control_lines.specs.declared.line.Line.TheVariants as lines
 use Rattle.engine_core.specs.Calls.{AnswersEvent}
 use Rattle.engine_core.specs.Engine.{EngineState}
 use Rattle.tool_core.specs.Answering.{Checkpointing, no_checkpoints}
 use Rattle.tool_core.specs.declared.checkpoints.CheckpointedArchive.{CheckpointedArchive}
 use Rattle.tool_core.specs.Archives.{Closed, Open, SeenArchive, archive_seen}
-use Rattle.tool_core.specs.ScriptLines.{ReadLineEnds, Scene, Standing, opened, unknown}
+use Rattle.tool_core.specs.Left.{DiskLeaves}
+use Rattle.tool_core.specs.ScriptLines.{Calls, Scene, Standing, opened, unknown}
 
 -- more entries count than recordings are active, and at least half of what may count beyond those
 abbrev pub is_checkpoint_due : ℕ → ℕ → ℕ → Bool
@@ -46,12 +46,21 @@ script_checkpoints false = no_checkpoints
 
 -- ---- exactly, where the disk obeys the crash model
 
--- the line `checkpoint`, which nobody is answered
+-- the call of a checkpoint, which nobody is answered
 abbrev pub Checkpoints : Scene → Scene → Type 0
-Checkpoints old new = (outcome : Result Reply Refusal) × ReadLineEnds old (Ok (lines.Event events.Checkpoint)) outcome new
+Checkpoints old new = (outcome : Result Reply Refusal) × Calls events.Checkpoint old outcome new
 
 -- where one is due; nothing is known of an archive of which nothing is
 abbrev pub ChecksDue : Standing → Scene → Scene → Type 0
 ChecksDue (opened a) old new = MatchBool (checkpoint_due a.desk) (Checkpoints old new) (new ≡ old)
 ChecksDue unknown old new = Checkpoints old new ⊎ (new ≡ old)
 ChecksDue standing old new = new ≡ old
+
+-- what is done before a line, where a script makes checkpoints or makes none
+abbrev pub Precedes : Bool → Scene → Scene → Type 0
+Precedes true old new = ChecksDue old.archive old new
+Precedes false old new = new ≡ old
+
+-- A crash before a line is answered leaves the scene then.
+abbrev pub exact_checkpoints : Bool → Checkpointing Scene
+exact_checkpoints makes = record { offers = λ s. makes; before = λ old new. Precedes makes old new × DiskLeaves new }

@@ -5,6 +5,7 @@ pub mod Merging
 pub mod Answering
 pub mod Archives
 pub mod ScriptLines
+pub mod Left
 pub mod Checkpoints
 pub mod Script
 pub mod CheckpointedScript

@@ -13,15 +13,15 @@ abbrev pub HasNoEnd : List ℕ → Type 0
 HasNoEnd text = All (λ b. b ≢ 10) text
 
 -- what is kept of a line grows by the text
-abbrev pub Grows : Option (List ℕ) → Option (List ℕ) → List ℕ → Type 0
-Grows old new text = (seen : List ℕ) → old ≡ kept seen → new ≡ kept (seen ++ text)
+abbrev pub LineGrows : Option (List ℕ) → Option (List ℕ) → List ℕ → Type 0
+LineGrows old new text = (seen : List ℕ) → old ≡ kept seen → new ≡ kept (seen ++ text)
 
 -- a text without a line end, and what ends it, go from an input to a line
 pub record MovesText (old new : Option (List ℕ)) (line_old line_new : Option (List ℕ)) (end : List ℕ) : Type 0 where
   pub text : List ℕ
   pub no_end : HasNoEnd text
   pub consumed : Consumes old new (text ++ end)
-  pub grown : Grows line_old line_new text
+  pub grown : LineGrows line_old line_new text
 
 -- what one read of an input did
 abbrev pub TakesPart : Part → Option (List ℕ) → Option (List ℕ) → Option (List ℕ) → Option (List ℕ) → Type 0

@@ -1,32 +1,27 @@
--- What each line of a script is answered exactly, and how the script stands after it, where its disk obeys the crash model.
+-- What each call of a script's archive ends with exactly, and how the script stands after it, where its disk obeys the crash model.
 -- docs/CONTROL.md, "Lines"; docs/STORAGE.md, "Recovery".
-use Rattle.std.specs.Prelude.{◌≡◌, ◌⊎◌, ◌+◌, ◌^◌, ◌<◌, ◌≤◌, ℕ, ℤ, pos, Bool, true, false, List, Option, Some, None, Result, Ok, Err, is_none}
+use Rattle.std.specs.Prelude.{◌≡◌, ◌⊎◌, ◌+◌, ◌^◌, ◌<◌, ◌≤◌, ℤ, pos, true, false, Option, Some, None, Result, Ok, Err}
+use Rattle.frame_core.specs.declared.geometry.Geometry.{Geometry}
 use Rattle.frame_core.specs.declared.refusal.Refusal.{Refusal}
-use Rattle.frame_core.specs.declared.refusal.Refusal.TheVariants.{BadLine, Broken, DeviceFault, HistoryFull, NoMemory, NotCatalogue}
+use Rattle.frame_core.specs.declared.refusal.Refusal.TheVariants.{Broken, DeviceFault, HistoryFull, NoMemory, NotCatalogue}
 use Rattle.disk_core.specs.DiskImage.{DiskImage, MayLeave, reads}
 use Rattle.disk_core.specs.Life.{HasFailed, LeavesOnly, Life}
 use Rattle.archive_model.specs.declared.version.BankVersion.TheVariants.{Two}
 use Rattle.archive_model.specs.declared.command.Command.TheVariants.{Restart}
 use Rattle.archive_model.specs.declared.reply.Reply.{Reply}
-use Rattle.archive_model.specs.declared.reply.Reply.TheVariants.{Bye, Compacted, Reopened}
+use Rattle.archive_model.specs.declared.reply.Reply.TheVariants.{Compacted, Reopened}
 use Rattle.archive_model.specs.Commands.{after}
 use Rattle.archive_model.specs.State.{State, active_count}
 use Rattle.catalogue_log.specs.LogState.{Banks, TellsBanks}
-use Rattle.merge_core.specs.Merge.{Merging}
 use Rattle.control_core.specs.declared.event.Event.{Event}
 use Rattle.control_core.specs.declared.event.Event.TheVariants as events
-use Rattle.control_core.specs.Bytes.{BytesEnd}
-use Rattle.control_core.specs.Exact.{Archive, ArchiveEnd, CallEnds, Is, opened_archive}
+use Rattle.control_core.specs.Bytes.{terms_in}
+use Rattle.control_core.specs.Exact.{Archive, CallEnds, opened_archive}
 use Rattle.control_core.specs.Runs.{MayStand}
-use Rattle.control_lines.specs.declared.line.Line.{Line}
-use Rattle.control_lines.specs.declared.line.Line.TheVariants as lines
 use Rattle.engine_core.specs.Opened.{IsFresh}
 use Rattle.engine_core.specs.Recovery.{IsEither, Recovers, RecoversTo}
-use Rattle.tool_core.specs.Merging.{MergeEnds, Ends}
-
--- so, or memory was refused, and nothing has changed
-abbrev pub OrWant : {S : Type 0} → S → Ends S → Ends S
-OrWant old Made outcome new = Made outcome new ⊎ ((outcome ≡ Err NoMemory) × (new ≡ old))
+use Rattle.tool_core.specs.Answering.{Ways}
+use Rattle.tool_core.specs.Merging.{Ends}
 
 -- ---- the archive of a script
 
@@ -40,30 +35,90 @@ pub data Standing : Type 0 where
   refused : DiskImage → Refusal → Standing
   unknown : Standing
 
--- a call of the archive where it is open; else it is Broken
-abbrev pub WhereOpen : (Archive → ArchiveEnd) → Standing → Ends Standing
-WhereOpen Made (opened a) outcome (opened b) = Made a outcome b
-WhereOpen Made (opened a) outcome _ = ⊥
-WhereOpen Made unknown outcome new = new ≡ unknown
-WhereOpen Made standing outcome new = (outcome ≡ Err Broken) × (new ≡ standing)
+-- The archive, what a compaction would ask of the banks of its catalogue, and what befell the disk.
+pub record Scene : Type 0 where
+  pub archive : Standing
+  pub banks : Banks
+  pub life : Life
 
--- a call; it is answered by a device fault only where a call of the disk has failed
-abbrev pub Calls : Type 0 → Event → Archive → ArchiveEnd
-Calls faulted event a = CallEnds a event faulted
+-- how an archive stands once it is closed, of which this state is in doubt
+abbrev pub closed_in : Archive → Option State → Standing
+closed_in a None = closed a
+closed_in a (Some u) = doubtful a.state u
 
--- a block's bytes are read by the terms of the session's recording, and then it is written
-abbrev pub WritesBytes : Type 0 → ℤ → List ℕ → Archive → ArchiveEnd
-WritesBytes faulted session bytes a = BytesEnd a session bytes (λ block. Calls faulted (events.Write session block) a)
+-- how it stands once it is closed
+abbrev pub shut : Standing → Standing
+shut (opened a) = closed_in a a.doubt
+shut standing = standing
 
--- what was written is settled; a refusal is the answer
-abbrev pub ThenSettles : Type 0 → ℤ → Result Reply Refusal → Archive → ArchiveEnd
-ThenSettles faulted session (Ok reply) a = Calls faulted (events.Settle session) a
-ThenSettles faulted session (Err refusal) a = Is (Err refusal) a
+-- a call of the disk has failed between two scenes
+abbrev pub Faulted : Scene → Scene → Type 0
+Faulted s t = HasFailed s.life t.life
 
--- A block is written and then settled: the first refusal. Where settling is refused it stays written.
-abbrev pub Records : Type 0 → ℤ → List ℕ → Archive → ArchiveEnd
-Records faulted session bytes a outcome b =
-    (first : Result Reply Refusal) × (mid : Archive) × OrWant a (WritesBytes faulted session bytes a) first mid × ThenSettles faulted session first mid outcome b
+-- ---- at every moment
+
+-- the state of the archive, or the one in doubt; none where there is no archive
+abbrev pub MayStandAt : Standing → State → Type 0
+MayStandAt (opened a) x = MayStand a x
+MayStandAt (closed a) x = x ≡ a.state
+MayStandAt (doubtful s u) x = IsEither s u x
+MayStandAt (refused image why) x = ⊥
+MayStandAt unknown x = ⊥
+
+-- the restart of a state of the archive
+abbrev pub IsRestarted : Standing → State → Type 0
+IsRestarted standing x = (y : State) × MayStandAt standing y × (x ≡ after y Restart)
+
+-- a crash at any moment between two scenes leaves a state that may stand at one of them
+abbrev pub LeavesBetween : Scene → Scene → Type 0
+LeavesBetween s t = LeavesOnly s.life t.life (RecoversTo (λ x. MayStandAt s.archive x ⊎ MayStandAt t.archive x))
+
+-- A crash at any moment of an opening, between these lives of the disk, leaves a state before it or after it, or the restart of
+-- one before it; where the catalogue is refused, what it might have left before.
+abbrev pub LeavesReopening : Life → Life → Standing → Standing → Type 0
+LeavesReopening old new (refused image why) after = (after ≡ unknown) ⊎ LeavesOnly old new (MayLeave old.now)
+LeavesReopening old new unknown after = Unit {0}
+LeavesReopening old new before after = LeavesOnly old new (RecoversTo (λ x. MayStandAt before x ⊎ (MayStandAt after x ⊎ IsRestarted before x)))
+
+-- ---- calls
+
+-- the terms of the recording that a session writes; none is known where none is open
+abbrev pub KnowsTerms : Standing → ℤ → Result Geometry Refusal → Type 0
+KnowsTerms (opened a) session terms = terms ≡ terms_in a.desk session
+KnowsTerms unknown session terms = Unit {0}
+KnowsTerms standing session terms = terms ≡ Err Broken
+
+-- What is done where the archive is open; else it is Broken, and nothing changes.
+abbrev pub WhereOpen : (Archive → Ends Scene) → Standing → Scene → Ends Scene
+WhereOpen Made (opened a) s outcome t = Made a outcome t
+WhereOpen Made unknown s outcome t = t.archive ≡ unknown
+WhereOpen Made standing s outcome t = (outcome ≡ Err Broken) × (t ≡ s)
+
+-- A call of an open archive. It is answered by a device fault only where a call of the disk has failed.
+abbrev pub CallsOpen : Event → Scene → Archive → Ends Scene
+CallsOpen event s a outcome t = (b : Archive) × (t.archive ≡ opened b) × CallEnds a event (Faulted s t) outcome b × LeavesBetween s t
+
+-- the next epoch; the bank that was in use may be written
+abbrev pub next_banks : Banks → Banks
+next_banks b = record { epoch = b.epoch + 1; spare = true }
+
+-- a bank that may be written, and an epoch for it
+abbrev pub MayCompact : Banks → Type 0
+MayCompact b = (b.spare ≡ true) × (b.epoch + 1 < 2 ^ 64)
+
+-- What a call leaves of what a compaction would ask of the banks. A checkpoint that is answered goes on in the next epoch, and the
+-- bank that was in use may be written. Its banks refuse one exactly so, and the disk may fail only if they do not. Each other
+-- call leaves them as they were.
+abbrev pub BanksCalled : Event → Banks → Result Reply Refusal → Banks → Type 0
+BanksCalled events.Checkpoint b (Ok reply) c = ((b.spare ≡ true) × (b.epoch + 1 < 2 ^ 64)) × (c ≡ next_banks b)
+BanksCalled events.Checkpoint b (Err NotCatalogue) c = (b.spare ≡ false) × (c ≡ b)
+BanksCalled events.Checkpoint b (Err HistoryFull) c = (b.spare ≡ true) × (2 ^ 64 ≤ b.epoch + 1) × (c ≡ b)
+BanksCalled events.Checkpoint b (Err DeviceFault) c = MayCompact b × (c ≡ b)
+BanksCalled event b outcome c = c ≡ b
+
+-- a call
+abbrev pub Calls : Event → Scene → Ends Scene
+Calls event s outcome t = WhereOpen (CallsOpen event s) s.archive s outcome t × BanksCalled event s.banks outcome t.banks
 
 -- ---- reopening
 
@@ -100,48 +155,39 @@ ReopensEither life faulted s u (Err NoMemory) new = new ≡ doubtful s u
 ReopensEither life faulted s u (Err DeviceFault) new = faulted × StaysInDoubt s u new
 ReopensEither life faulted s u (Err refusal) new = ⊥
 
--- an archive, of which this state is in doubt
-abbrev pub ReopensOpened : Life → Type 0 → Archive → Option State → Ends Standing
-ReopensOpened life faulted a None = ReopensAs faulted a
-ReopensOpened life faulted a (Some u) = ReopensEither life faulted a.state u
-
--- What reopening does, on a disk with this life. Where there is no archive it is refused again.
-abbrev pub Reopens : Life → Type 0 → Standing → Ends Standing
-Reopens life faulted (opened a) outcome new = ReopensOpened life faulted a a.doubt outcome new
-Reopens life faulted (closed a) outcome new = ReopensAs faulted a outcome new
-Reopens life faulted (doubtful s u) outcome new = ReopensEither life faulted s u outcome new
-Reopens life faulted (refused image why) outcome new =
+-- What is opened of a disk with this life, where the archive stood so when it was closed. Where there is no archive it is refused
+-- again.
+abbrev pub ReopensShut : Life → Type 0 → Standing → Ends Standing
+ReopensShut life faulted (opened a) outcome new = ⊥
+ReopensShut life faulted (closed a) outcome new = ReopensAs faulted a outcome new
+ReopensShut life faulted (doubtful s u) outcome new = ReopensEither life faulted s u outcome new
+ReopensShut life faulted (refused image why) outcome new =
     (((outcome ≡ Err why) ⊎ (outcome ≡ Err NoMemory)) × (new ≡ refused image why)) ⊎ ((outcome ≡ Err DeviceFault) × faulted × (new ≡ unknown))
-Reopens life faulted unknown outcome new = new ≡ unknown
+ReopensShut life faulted unknown outcome new = new ≡ unknown
 
--- ---- the banks of the catalogue
+-- What a compaction would ask of the banks then: as before, where nothing was in doubt; else as the disk with this life read.
+-- Nothing is known where nothing of the disk is.
+abbrev pub BanksAgain : Life → Standing → Banks → Standing → Banks → Type 0
+BanksAgain life before b unknown c = Unit {0}
+BanksAgain life (closed a) b standing c = c ≡ b
+BanksAgain life before b (opened a) c = TellsBanks (reads life.now) c
+BanksAgain life before b standing c = c ≡ b
 
--- nothing of the archive is in doubt
-abbrev pub is_certain : Standing → Bool
-is_certain (opened a) = is_none a.doubt
-is_certain (closed a) = true
-is_certain standing = false
+-- the disk with this life is opened, where the archive stood so, with these banks, when it was closed
+abbrev pub OpensShut : Life → Standing → Banks → Ends Scene
+OpensShut life before b outcome t =
+    ReopensShut life (HasFailed life t.life) before outcome t.archive × BanksAgain life before b t.archive t.banks
+    × LeavesReopening life t.life before t.archive
 
--- What a compaction would ask of the banks, behind an opening: as before, where nothing was in doubt; else as the disk with
--- this life read. Nothing is known where nothing of the disk is.
-abbrev pub BanksAgain : Life → Bool → Banks → Standing → Banks → Type 0
-BanksAgain life certain b unknown c = Unit {0}
-BanksAgain life false b (opened a) c = TellsBanks (reads life.now) c
-BanksAgain life certain b standing c = c ≡ b
+-- the archive is closed, and opened again
+abbrev pub Reopens : Scene → Ends Scene
+Reopens s = OpensShut s.life (shut s.archive) s.banks
 
 -- ---- compaction
 
 -- the archive behind a compaction, at which nobody calls yet: no entry of its history counts, and it is of version 2
 abbrev pub compacted : Archive → Archive
 compacted a = opened_archive a.state 0 a.desk.limit Two
-
--- the next epoch; the bank that was in use may be written
-abbrev pub next_banks : Banks → Banks
-next_banks b = record { epoch = b.epoch + 1; spare = true }
-
--- a bank that may be written, and an epoch for it
-abbrev pub MayCompact : Banks → Type 0
-MayCompact b = (b.spare ≡ true) × (b.epoch + 1 < 2 ^ 64)
 
 -- An archive whose recordings have stopped is closed, its catalogue is written anew, and it is opened. Refused it stays
 -- closed; want of memory may come behind the writing too, and a device fault leaves the state.
@@ -154,103 +200,25 @@ WritesAnew faulted a b (Err DeviceFault) new c = faulted × (new ≡ doubtful a.
 WritesAnew faulted a b (Err refusal) new c = ⊥
 
 -- behind its opening
-abbrev pub ThenWritesAnew : Type 0 → Result Reply Refusal → Standing → Banks → Result Reply Refusal → Standing → Banks → Type 0
-ThenWritesAnew faulted (Ok reply) (opened a) b = WritesAnew faulted a b
-ThenWritesAnew faulted (Ok reply) standing b = λ outcome new c. ⊥
-ThenWritesAnew faulted (Err refusal) standing b = λ outcome new c. (outcome ≡ Err refusal) × (new ≡ standing) × (c ≡ b)
+abbrev pub ThenWritesAnew : Result Reply Refusal → Scene → Ends Scene
+ThenWritesAnew (Ok reply) s outcome t =
+    (a : Archive) × (s.archive ≡ opened a) × WritesAnew (Faulted s t) a s.banks outcome t.archive t.banks × LeavesBetween s t
+ThenWritesAnew (Err refusal) s outcome t = (outcome ≡ Err refusal) × (t ≡ s)
 
--- What `compact` does, on a disk with this life: the archive is closed and opened, which stops its recordings, closed, written
--- anew and opened. Where none is open it is Broken.
-abbrev pub Compacts : Life → Type 0 → Standing → Banks → Result Reply Refusal → Standing → Banks → Type 0
-Compacts life faulted (opened a) b outcome new c =
-    (first : Result Reply Refusal) × (mid : Standing) × (d : Banks) × ReopensOpened life faulted a a.doubt first mid
-    × BanksAgain life (is_none a.doubt) b mid d × ThenWritesAnew faulted first mid d outcome new c
-Compacts life faulted unknown b outcome new c = new ≡ unknown
-Compacts life faulted standing b outcome new c = (outcome ≡ Err Broken) × (new ≡ standing) × (c ≡ b)
+-- an open archive is closed and opened, which stops its recordings, closed, written anew and opened
+abbrev pub CompactsOpen : Scene → Archive → Ends Scene
+CompactsOpen s a outcome t = (first : Result Reply Refusal) × (mid : Scene) × Reopens s first mid × ThenWritesAnew first mid outcome t
 
--- ---- checkpoints
+-- what `compact` does
+abbrev pub Compacts : Scene → Ends Scene
+Compacts s = WhereOpen (CompactsOpen s) s.archive s
 
--- What a call leaves of what a compaction would ask of the banks. A checkpoint that is answered goes on in the next epoch, and the
--- bank that was in use may be written. Its banks refuse one exactly so, and the disk may fail only if they do not. Each other
--- call leaves them as they were.
-abbrev pub BanksCalled : Event → Banks → Result Reply Refusal → Banks → Type 0
-BanksCalled events.Checkpoint b (Ok reply) c = ((b.spare ≡ true) × (b.epoch + 1 < 2 ^ 64)) × (c ≡ next_banks b)
-BanksCalled events.Checkpoint b (Err NotCatalogue) c = (b.spare ≡ false) × (c ≡ b)
-BanksCalled events.Checkpoint b (Err HistoryFull) c = (b.spare ≡ true) × (2 ^ 64 ≤ b.epoch + 1) × (c ≡ b)
-BanksCalled events.Checkpoint b (Err DeviceFault) c = MayCompact b × (c ≡ b)
-BanksCalled event b outcome c = c ≡ b
+-- ---- what an exact script's archive answers
 
--- ---- lines
-
--- the archive, what a compaction would ask of the banks of its catalogue, the merge that was begun last, and what befell the
--- disk
-pub record Scene : Type 0 where
-  pub archive : Standing
-  pub banks : Banks
-  pub merge : Option Merging
-  pub life : Life
-
--- a call of the disk has failed between two scenes
-abbrev pub Faulted : Scene → Scene → Type 0
-Faulted s t = HasFailed s.life t.life
-
--- the line is the archive's, and the merge and the banks stay
-abbrev pub OfArchive : Scene → Ends Standing → Ends Scene
-OfArchive s Made outcome new = Made outcome new.archive × (new.merge ≡ s.merge) × (new.banks ≡ s.banks)
-
--- the line is the merge's, and the archive and its disk stay
-abbrev pub OfMerge : Scene → Ends (Option Merging) → Ends Scene
-OfMerge s Made outcome new = Made outcome new.merge × (new.archive ≡ s.archive) × (new.banks ≡ s.banks) × (new.life ≡ s.life)
-
--- an answer, and nothing has changed
-abbrev pub Stays : Scene → Result Reply Refusal → Ends Scene
-Stays s answer outcome new = (outcome ≡ answer) × (new ≡ s)
-
--- What a line is answered. The bytes of a block are read as one, which may want memory.
-abbrev pub LineEnds : Scene → Line → Ends Scene
-LineEnds s (lines.Event event) outcome t =
-    WhereOpen (Calls (Faulted s t) event) s.archive outcome t.archive × (t.merge ≡ s.merge) × BanksCalled event s.banks outcome t.banks
-LineEnds s (lines.Write session bytes) outcome t = OfArchive s (OrWant s.archive (WhereOpen (WritesBytes (Faulted s t) session bytes) s.archive)) outcome t
-LineEnds s (lines.Block session bytes) outcome t = OfArchive s (WhereOpen (Records (Faulted s t) session bytes) s.archive) outcome t
-LineEnds s lines.Reopen outcome t =
-    Reopens s.life (Faulted s t) s.archive outcome t.archive × (t.merge ≡ s.merge) × BanksAgain s.life (is_certain s.archive) s.banks t.archive t.banks
-LineEnds s (lines.Merge line) outcome t = OfMerge s (MergeEnds s.merge line) outcome t
-LineEnds s (lines.Follow fields) outcome t = Stays s (Err BadLine) outcome t
-LineEnds s lines.Quit outcome t = Stays s (Ok Bye) outcome t
-LineEnds s lines.Compact outcome t = Compacts s.life (Faulted s t) s.archive s.banks outcome t.archive t.banks × (t.merge ≡ s.merge)
-
--- ---- at every moment
-
--- the state of the archive, or the one in doubt; none where there is no archive
-abbrev pub MayStandAt : Standing → State → Type 0
-MayStandAt (opened a) x = MayStand a x
-MayStandAt (closed a) x = x ≡ a.state
-MayStandAt (doubtful s u) x = IsEither s u x
-MayStandAt (refused image why) x = ⊥
-MayStandAt unknown x = ⊥
-
--- the restart of a state of the archive
-abbrev pub IsRestarted : Standing → State → Type 0
-IsRestarted standing x = (y : State) × MayStandAt standing y × (x ≡ after y Restart)
-
--- a reopening stops what is active, and a compaction begins with one
-abbrev pub MayRestart : Line → Standing → State → Type 0
-MayRestart lines.Reopen standing x = IsRestarted standing x
-MayRestart lines.Compact standing x = IsRestarted standing x
-MayRestart line standing x = ⊥
-
--- A crash at any moment of a line, between these lives of the disk, leaves a state before it or after it, or in a reopening or
--- a compaction the restart of one before it; where the catalogue is refused, what it might have left before.
-abbrev pub LeavesMeanwhile : Line → Life → Life → Standing → Standing → Type 0
-LeavesMeanwhile line old new (refused image why) after = (after ≡ unknown) ⊎ LeavesOnly old new (MayLeave old.now)
-LeavesMeanwhile line old new unknown after = Unit {0}
-LeavesMeanwhile line old new before after = LeavesOnly old new (RecoversTo (λ x. MayStandAt before x ⊎ (MayStandAt after x ⊎ MayRestart line before x)))
-
--- a line that was read, or bytes that are none
-abbrev pub ReadLineEnds : Scene → Result Line Refusal → Ends Scene
-ReadLineEnds s (Ok line) outcome t = LineEnds s line outcome t × LeavesMeanwhile line s.life t.life s.archive t.archive
-ReadLineEnds s (Err refusal) outcome t = Stays s (Err refusal) outcome t
-
--- how it ends; or, where its reading takes memory, want of memory before anything has changed
-abbrev pub ReadLineOrWant : Bool → Scene → Result Line Refusal → Ends Scene
-ReadLineOrWant takes s line outcome new = ReadLineEnds s line outcome new ⊎ ((takes ≡ true) × (outcome ≡ Err NoMemory) × (new ≡ s))
+abbrev pub exact_ways : Ways Scene
+exact_ways = record {
+  terms = λ session old terms new. KnowsTerms old.archive session terms × (new ≡ old);
+  call = Calls;
+  reopen = Reopens;
+  compact = Compacts;
+}

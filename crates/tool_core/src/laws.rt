@@ -6,7 +6,8 @@ ghost use Rattle.disk_core.specs.Life.{Life};
 ghost use Rattle.archive_model.specs.State.{State};
 ghost use Rattle.catalogue_log.specs.LogState.{Banks};
 ghost use Rattle.control_core.specs.Exact.{Archive};
-ghost use Rattle.tool_core.specs.Script.{GoesOnFrom, GoesOnFromEither, LeavesBanks, LeavesStanding};
+ghost use Rattle.tool_core.specs.Left.{LeavesBanks, LeavesStanding};
+ghost use Rattle.tool_core.specs.Script.{GoesOnFrom, GoesOnFromEither};
 ghost use Rattle.tool_core.specs.ScriptLines.{doubtful, opened};
 
 /// Another script begins where one ended, with the restart of its archive and with its banks, or with that of one of the

@@ -3,7 +3,7 @@
 ghost use Rattle.std.specs.Prelude.{◌≡◌, ◌≢◌, ◌↔◌, ◌<◌, ◌≤◌, ◌+◌, ℕ, [], take, slice_index, length, IsTrue, IfOk, IfErr, OnOk, IfSome, IfNone, MatchOption, MatchBool};
 ghost use Rattle.std.specs.Io.KnownBytes.{IsAtEnd};
 ghost use Rattle.tool_core.specs.InputLines.{kept, ReadsLine};
-ghost use Rattle.tool_core.specs.Parts.{HasNoEnd, Grows, IsSpent, TakesPart};
+ghost use Rattle.tool_core.specs.Parts.{HasNoEnd, LineGrows, IsSpent, TakesPart};
 
 use crate::fault::EarlyEnd;
 use frame_core::limits::MAX_LINE_LENGTH;
@@ -68,7 +68,7 @@ impl LineBuffer {
     }
 
     fn add(&mut self, text: &[u8]) -> Result<(), AllocError>
-        ensures { OnOk result (Grows self.old self.new text.now) }
+        ensures { OnOk result (LineGrows self.old self.new text.now) }
     {
         if self.is_too_long {
             return Ok(());

@@ -69,6 +69,8 @@ returns c = record {
   consumers_on_is = text_given (found_of c.args.own.now) (codes "consumers-on") _ _ c.get_str-consumers_on.ensures refl;
   streams_are = c.requires.streams;
   networks_are = c.requires.networks;
+  sends_are = c.requires.sends;
+  send_on_is = text_given (found_of c.args.own.now) (codes "send-on") _ _ c.get_str-send_on.ensures refl;
   segment_is = number_if (λ text x. ParsesUnsigned 32 10 text x × ExplainsUnsignedError 10 text x × HasUnsignedDigitsIfOk text x) (λ text x read. read.0)
       (found_of c.args.own.now) (codes "segment-length") _ c.get_one-segment_length.ensures.none c.get_one-segment_length.ensures.value;
   quiet_is = flag_given (found_of c.args.own.now) (codes "quiet") _ c.get_flag-is_quiet.ensures.none c.get_flag-is_quiet.ensures.value c.get_flag-is_quiet.ensures.other;

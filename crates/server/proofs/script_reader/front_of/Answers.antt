@@ -1,9 +1,9 @@
--- The first 70 bytes are 70, or they are all.
+-- The first 90 bytes are 90, or they are all.
 use Rattle.std.proofs.Common.{arith, length-take-le, sym, take_all}
 use Rattle.server.proofs.script_reader.front_of.Goals as goal
 
 pub slice_bounds-result-end : goal.slice_bounds-result-end
-slice_bounds-result-end c = sym (length-take-le 70 c.args.bytes.now (omega (arith, c.if-bytes-le-LONGEST_FOLLOW.false)))
+slice_bounds-result-end c = sym (length-take-le 90 c.args.bytes.now (omega (arith, c.if-bytes-le-LONGEST_LINE.false)))
 
-pub returns-then-bytes-le-LONGEST_FOLLOW : goal.returns-then-bytes-le-LONGEST_FOLLOW
-returns-then-bytes-le-LONGEST_FOLLOW c = sym (take_all 70 c.args.bytes.now c.if-bytes-le-LONGEST_FOLLOW.true)
+pub returns-then-bytes-le-LONGEST_LINE : goal.returns-then-bytes-le-LONGEST_LINE
+returns-then-bytes-le-LONGEST_LINE c = sym (take_all 90 c.args.bytes.now c.if-bytes-le-LONGEST_LINE.true)

@@ -1,0 +1,120 @@
+#!/usr/bin/env python3
+"""Measures recordings that a served archive sends.
+
+Usage: bench/sending.py [--frames N] [--runs N] [program], on the file system of TRIAL_ROOM, else that of TMPDIR.
+
+Frames of 1,408 bytes go to the same receiver (subscriber.rs) over UDP of this machine, in turn:
+- from a recording, by `send`;
+- from `sender.rs --flow-control`.
+Then a stream is recorded as fast as it goes, alone, next to one sending and next to four.
+"""
+import argparse
+import socket
+import statistics
+import subprocess
+import sys
+import tempfile
+import time
+from pathlib import Path
+
+from measure import compiled
+from lib.tool import ROOT, Fault, conclude, file_system, program, room, run
+
+sys.path.insert(0, str(ROOT / "trials"))
+from serving import Server, free_port  # noqa: E402
+
+LENGTH, TERM = 1_408, 16_777_216
+OF_SENDER, BESIDE_ONE, BESIDE_FOUR = 0.8, 0.9, 0.5  # goals
+OPTIONS = "--aeron", "--clients", "4", "--send-to", "127.0.0.0/8"
+
+
+def covered(frames: int) -> int:
+    """How many bytes of the stream so many frames cover, of which each term has a pad as its last."""
+    in_term = TERM // LENGTH + 1
+    return frames // in_term * TERM + frames % in_term * LENGTH
+
+
+def subscriber(binary: Path, frames: int, *words: str) -> tuple[int, "subprocess.Popen[str]"]:
+    """A receiver of so many frames: its port, and itself."""
+    port = free_port(socket.SOCK_DGRAM)
+    command = [str(binary), str(port), str(covered(frames)), *words]
+    return port, subprocess.Popen(command, stdout=subprocess.PIPE, text=True)
+
+
+def rate(receiver: "subprocess.Popen[str]", frames: int) -> float:
+    """Frames a second, as a receiver prints them."""
+    out, _ = receiver.communicate(timeout=600)
+    micros, naks, datagrams, late = map(int, out.split())
+    print(f"  {frames / micros * 1e6:,.0f} frames a second, {naks} NAKs, {datagrams} datagrams, {late} past a gap")
+    return frames / micros * 1e6
+
+
+def recorded(server: Server, sender: Path, frames: int) -> float:
+    """Records so many frames, and how many a second."""
+    words = [str(sender), str(server.control), str(server.receive), str(frames), str(LENGTH), "--flow-control"]
+    out = subprocess.run(words, capture_output=True, text=True, check=True).stdout
+    return frames / int(out.split()[0]) * 1e6
+
+
+def by_send(server: Server, binary: Path, frames: int) -> float:
+    port, receiver = subscriber(binary, frames)
+    answer = server.ask(f"send 0 0 -1 127.0.0.1:{port}")[0]
+    found = rate(receiver, frames)
+    server.ask(f"stop-sending {answer.split()[1]}")
+    return found
+
+
+def by_sender(sender: Path, binary: Path, frames: int) -> float:
+    control = free_port(socket.SOCK_STREAM)
+    port, receiver = subscriber(binary, frames, str(control))
+    time.sleep(0.2)
+    subprocess.run([sender, str(control), str(port), str(frames), str(LENGTH), "--flow-control"], check=True, capture_output=True)
+    return rate(receiver, frames)
+
+
+def beside(tool: Path, sender: Path, binary: Path, archive: Path, count: int, frames: int) -> float:
+    """The rate of a recorder next to so many sendings of another archive's recording."""
+    with tempfile.TemporaryDirectory(dir=archive.parent) as other:
+        origin = Server(tool, archive, *OPTIONS)
+        server = Server(tool, Path(other), "--aeron", "--clients", "4")
+        ports = [subscriber(binary, frames) for _ in range(count)]
+        for port, _ in ports:
+            origin.ask(f"send 0 0 -1 127.0.0.1:{port}")
+        found = recorded(server, sender, frames)
+        for _, receiver in ports:
+            receiver.kill()
+        server.process.wait(60)
+        origin.quit()
+        return found
+
+
+def main() -> int:
+    words = argparse.ArgumentParser(description=__doc__, formatter_class=argparse.RawDescriptionHelpFormatter)
+    words.add_argument("program", nargs="?")
+    words.add_argument("--frames", type=int, default=500_000)
+    words.add_argument("--runs", type=int, default=3)
+    asked = words.parse_args()
+    tool, frames = program(asked.program), asked.frames
+    with room() as folder:
+        sender, binary = compiled("sender.rs", folder), compiled("subscriber.rs", folder)
+        archive = folder / "archive"
+        run([tool, "create", archive, "--history", "16777216"])
+        first = Server(tool, archive, *OPTIONS)
+        print(f"{frames} frames of {LENGTH} bytes on {file_system(folder)}; recorded at {recorded(first, sender, frames):,.0f} a second")
+        first.process.wait(60)
+        server = Server(tool, archive, *OPTIONS)
+        pairs = [(by_send(server, binary, frames), by_sender(sender, binary, frames)) for _ in range(asked.runs)]
+        ratio = statistics.median(one / other for one, other in pairs)
+        print(f"a sending has {ratio:.2f} of the sender's rate (goal {OF_SENDER})")
+        server.quit()
+        alone, one, four = (
+            statistics.median(beside(tool, sender, binary, archive, count, frames) for _ in range(asked.runs)) for count in (0, 1, 4)
+        )
+        print(f"a recorder has {one / alone:.2f} of its rate next to one sending (goal {BESIDE_ONE}), {four / alone:.2f} next to four (goal {BESIDE_FOUR})")
+        if ratio < OF_SENDER or one / alone < BESIDE_ONE or four / alone < BESIDE_FOUR:
+            raise Fault("a goal is missed")
+    return 0
+
+
+if __name__ == "__main__":
+    conclude(main)

@@ -1,0 +1,335 @@
+//! The thread that sends recordings, and hears what their receivers answer. docs/SERVING.md, "Send a recording".
+
+ghost use Rattle.std.specs.Prelude.{◌≡◌};
+ghost use Rattle.server_sender.specs.Stepping.{SendsSome};
+
+use crate::connections::Connections;
+use crate::sendings::{ActiveSending, SendPlace};
+use server_sender::{Endpoint, Feedback, SendEnd, SendProgress, Stepped, feedback_of, send_some};
+use server_state::{Happening, Reporter, SendNews};
+use std::alloc::AllocError;
+use std::net::{SocketAddr, UdpSocket};
+use std::rt::Clock;
+use std::sync::Wait;
+use std::time::Duration;
+
+/// Datagrams of one sending that go out before another one's.
+const AT_ONCE: u64 = 16;
+/// Datagrams that are heard before what is due is sent: a receiver that was heard is not gone.
+const HEARD_AT_ONCE: u64 = 1_024;
+/// Bytes of a datagram that are looked at: those of a status message or a NAK, and more.
+const LONGEST: usize = 2_048;
+/// Status messages and NAKs that wait at most, for sendings whose recordings are looked at.
+const MOST_WAITING: usize = 1_024;
+/// Milliseconds that the thread sleeps at once at most while a recording is looked at.
+const BLINK: u64 = 1;
+/// The same if there is a sending.
+const NAP: u64 = 10;
+/// And if there is none.
+const REST: u64 = 100;
+/// Milliseconds after which it is reported that no receiver answers.
+const SILENCE: u64 = 5_000;
+
+/// What a receiver has answered, for the sending of a number at a place.
+#[derive(Clone, Copy)]
+struct Heard {
+    place: usize,
+    number: u64,
+    /// When it came, in milliseconds.
+    at: u64,
+    feedback: Feedback,
+}
+
+/// A socket as the end that datagrams of sendings go out by. One that can't be sent may be lost on the way too.
+#[derive(Drop)]
+struct UdpSendEnd<'a> {
+    socket: &'a UdpSocket,
+    datagrams: u64,
+    bytes: u64,
+}
+
+impl SendEnd for UdpSendEnd<'_> {
+    ghost use Rattle.std.specs.Prelude.{⊤};
+
+    ghost puts = { λ old to bytes new. ⊤ };
+
+    fn put(&mut self, datagram: &[u8], to: &Endpoint) {
+        self.datagrams = self.datagrams.wrapping_add(1);
+        self.bytes = self.bytes.wrapping_add(datagram.len() as u64);
+        let _ = self.socket.send_to(datagram, to.to_socket());
+    }
+}
+
+/// Sends recordings until the server ends, if there is a socket for that.
+pub(crate) fn send_all<R: Wait + Clock, T: Reporter>(rt: &R, with: &Connections<T>) {
+    let Some(socket) = with.sendings.socket() else {
+        return;
+    };
+    let mut buffer = [0; LONGEST];
+    let mut inbox = Vec::new(with.alloc);
+    let mut end = UdpSendEnd {
+        socket,
+        datagrams: 0,
+        bytes: 0,
+    };
+    for _ in rt.forever() {
+        if with.has_ended() {
+            return;
+        }
+        with.sendings.set_asleep(true);
+        let has_heard = hear_waiting(rt, with, socket, &mut buffer, &mut inbox);
+        let (has_sent, nap) = send_round(rt, with, &mut end, &mut inbox);
+        note_counts(with, &mut end);
+        if has_heard || has_sent {
+            with.sendings.set_asleep(false);
+        } else {
+            sleep(rt, with, socket, &mut buffer, &mut inbox, nap);
+        }
+    }
+}
+
+/// Notes what went out.
+fn note_counts<T>(with: &Connections<T>, end: &mut UdpSendEnd<'_>) {
+    let counts = &with.shared.sends.counts;
+    if end.datagrams > 0 {
+        counts.datagrams.add(end.datagrams);
+        counts.bytes.add(end.bytes);
+        end.datagrams = 0;
+        end.bytes = 0;
+    }
+}
+
+/// Sleeps until a datagram comes, for so many milliseconds at most, and hears it.
+fn sleep<R: Wait + Clock, T: Reporter>(
+    rt: &R,
+    with: &Connections<T>,
+    socket: &UdpSocket,
+    buffer: &mut [u8; LONGEST],
+    inbox: &mut Vec<Heard>,
+    nap: u64,
+) {
+    let nap = Duration::from_millis(nap);
+    if socket.set_read_timeout(Some(nap)).is_err() {
+        return;
+    }
+    let _ = hear(rt, with, socket, buffer, inbox);
+    with.sendings.set_asleep(false);
+}
+
+/// Hears the datagrams that wait, but no more than 1,024. Whether there was one.
+fn hear_waiting<R: Wait + Clock, T: Reporter>(
+    rt: &R,
+    with: &Connections<T>,
+    socket: &UdpSocket,
+    buffer: &mut [u8; LONGEST],
+    inbox: &mut Vec<Heard>,
+) -> bool {
+    if socket.set_nonblocking(true).is_err() {
+        return false;
+    }
+    let has_heard = hear_some(rt, with, socket, buffer, inbox);
+    // A send waits for room in the system's buffer. Else datagrams would be lost there.
+    let _ = socket.set_nonblocking(false).is_ok();
+    has_heard
+}
+
+/// Hears datagrams, but no more than 1,024. Whether there was one.
+fn hear_some<R: Wait + Clock, T: Reporter>(
+    rt: &R,
+    with: &Connections<T>,
+    socket: &UdpSocket,
+    buffer: &mut [u8; LONGEST],
+    inbox: &mut Vec<Heard>,
+) -> bool {
+    for count in 0..HEARD_AT_ONCE {
+        if !hear(rt, with, socket, buffer, inbox) {
+            return count > 0;
+        }
+    }
+    true
+}
+
+/// Hears a datagram. Whether there was one.
+fn hear<R: Wait + Clock, T: Reporter>(
+    rt: &R,
+    with: &Connections<T>,
+    socket: &UdpSocket,
+    buffer: &mut [u8; LONGEST],
+    inbox: &mut Vec<Heard>,
+) -> bool {
+    match socket.recv_from(buffer.as_mut_slice()) {
+        Ok((0, _)) => true,
+        Ok((count, from)) => {
+            note_feedback(rt, with, &buffer[..count], &from, inbox);
+            true
+        }
+        Err(_) => false,
+    }
+}
+
+/// Notes what a receiver answers, if it counts for a sending.
+fn note_feedback<R: Wait + Clock, T: Reporter>(
+    rt: &R,
+    with: &Connections<T>,
+    datagram: &[u8],
+    from: &SocketAddr,
+    inbox: &mut Vec<Heard>,
+) {
+    let counts = &with.shared.sends.counts;
+    let Some(feedback) = feedback_of(datagram) else {
+        counts.foreign.add(1);
+        return;
+    };
+    let known = with
+        .shared
+        .sends
+        .sending_for(rt, from, &feedback.publication());
+    let Some(known) = known else {
+        counts.foreign.add(1);
+        return;
+    };
+    match feedback {
+        Feedback::Status(_) => counts.status_messages.add(1),
+        Feedback::Repeat(_) => counts.naks.add(1),
+    }
+    if inbox.len() < MOST_WAITING {
+        let heard = Heard {
+            place: known.place,
+            number: known.number,
+            at: with.sendings.now(rt),
+            feedback,
+        };
+        let _ = inbox.push(heard);
+    }
+}
+
+/// A sending hears what its receiver has answered.
+fn hear_all(inbox: &mut Vec<Heard>, place: usize, sending: &mut ActiveSending) {
+    if inbox.is_empty() {
+        return;
+    }
+    for heard in inbox.as_slice() {
+        if heard.place == place && heard.number == sending.number {
+            sending.publishing.hear(heard.at, &heard.feedback);
+        }
+    }
+    forget_all(inbox, place);
+}
+
+/// Drops what waits for a place without a sending.
+fn forget_all(inbox: &mut Vec<Heard>, place: usize) {
+    inbox.retain(|heard| heard.place != place);
+}
+
+/// Sends what is due of each sending, but no more than 16 datagrams of each. Whether there was any, and for how many milliseconds
+/// the thread may sleep then.
+fn send_round<R: Wait + Clock, T: Reporter>(
+    rt: &R,
+    with: &Connections<T>,
+    end: &mut UdpSendEnd<'_>,
+    inbox: &mut Vec<Heard>,
+) -> (bool, u64) {
+    let mut has_sent = false;
+    let mut nap = REST;
+    for (index, place) in with.sendings.places().iter().enumerate() {
+        if place.is_taken() {
+            match send_at(rt, with, index, place, end, inbox) {
+                Some(sent) => {
+                    has_sent = sent || has_sent;
+                    nap = nap.min(NAP);
+                }
+                None => nap = nap.min(BLINK),
+            }
+        } else if !inbox.is_empty() {
+            forget_all(inbox, index);
+        }
+    }
+    (has_sent, nap)
+}
+
+/// Sends what is due at a place. Whether there was something; None if its recording is looked at.
+fn send_at<R: Wait + Clock, T: Reporter>(
+    rt: &R,
+    with: &Connections<T>,
+    index: usize,
+    place: &SendPlace,
+    end: &mut UdpSendEnd<'_>,
+    inbox: &mut Vec<Heard>,
+) -> Option<bool> {
+    let now = with.sendings.now(rt);
+    let mut sending = place.lock_to_send(rt)?;
+    let Some(sending) = &mut *sending else {
+        return Some(false);
+    };
+    hear_all(inbox, index, sending);
+    if sending.over.is_some() {
+        return Some(false);
+    }
+    let sent = send_due(now, sending, end);
+    if let Ok(Stepped::Over(over)) = sent {
+        sending.over = Some(over);
+    }
+    if sending.over.is_some() || sending.publishing.wants_frames() {
+        place.notify();
+    }
+    note_progress(rt, with, now, sending);
+    Some(matches!(sent, Ok(Stepped::Sent)))
+}
+
+/// Sends what is due of a sending, but no more than 16 datagrams.
+fn send_due<E: SendEnd>(
+    now: u64,
+    sending: &mut ActiveSending,
+    end: &mut E,
+) -> Result<Stepped, AllocError>
+    ensures { SendsSome E.puts sending.old.to 16 now sending.old.publishing end.old result sending.new.publishing end.new }
+{
+    send_some(now, AT_ONCE, &mut sending.publishing, end, &sending.to)
+}
+
+/// Notes how far a sending is, and reports what is new.
+fn note_progress<R: Wait, T: Reporter>(
+    rt: &R,
+    with: &Connections<T>,
+    now: u64,
+    sending: &mut ActiveSending,
+) {
+    let progress = sending.publishing.progress();
+    if progress != sending.noted {
+        with.shared.sends.note(rt, sending.number, &progress);
+        let counts = &with.shared.sends.counts;
+        counts
+            .repeats
+            .add(progress.repeats.saturating_sub(sending.noted.repeats));
+        if progress.is_heard && !sending.noted.is_heard {
+            report_heard(with, sending, &progress);
+        }
+        sending.noted = progress;
+    }
+    let waits = !progress.is_heard && SILENCE <= now.saturating_sub(sending.begun_at);
+    if waits && !sending.is_waiting_reported {
+        sending.is_waiting_reported = true;
+        let send = sending.number;
+        with.shared
+            .report(&Happening::Sending(SendNews::Waits { send }));
+    }
+}
+
+/// Reports that a receiver has answered.
+fn report_heard<T: Reporter>(
+    with: &Connections<T>,
+    sending: &ActiveSending,
+    progress: &SendProgress,
+) {
+    let send = sending.number;
+    let window = progress.limit.saturating_sub(progress.consumed);
+    with.shared
+        .report(&Happening::Sending(SendNews::Heard { send, window }));
+    if window < u64::from(sending.mtu.unsigned_abs()) {
+        with.shared.report(&Happening::Sending(SendNews::Narrow {
+            send,
+            mtu: sending.mtu,
+            window,
+        }));
+    }
+}
