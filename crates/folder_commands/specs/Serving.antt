@@ -48,9 +48,11 @@ IsNoConsumersEnd None (Some address) = Unit {0}
 IsNoConsumersEnd (Some port) None = 65535 < port
 IsNoConsumersEnd (Some port) (Some address) = IsNoAddress address.now ⊎ (65535 < port)
 
--- the text is no IPv4 address of one machine, with a port or alone
+-- the text is no IPv4 address of one machine, with a port or alone: it is a multicast address with a port, or has no port, and is none
 abbrev pub IsNoSendAddress : List ℕ → Type 0
-IsNoSendAddress text = ((address : SocketAddrV4) → IsSocketV4Text text address → IsMulticastV4 (v4_ip address)) × IsNoAddress text
+IsNoSendAddress text =
+    ((address : SocketAddrV4) × IsSocketV4Text text address × IsMulticastV4 (v4_ip address))
+    ⊎ (((address : SocketAddrV4) → IsSocketV4Text text address → ⊥) × IsNoAddress text)
 
 -- what `--send-on` (given or not) says is wrong, next to these texts of `--send-to`: it comes without one, or is no such address
 abbrev pub IsNoSendEnd : List (Bor (List ℕ)) → Option (Bor (List ℕ)) → Type 0

@@ -106,6 +106,8 @@ impl fmt::Display for Why {
                 "the archive is being written: what is told to be damaged may be whole, so look again"
             ),
             Why::Usage(error) => write!(f, "{error}"),
+            // Any port would do.
+            Why::Port(0, error) => write!(f, "the address cannot be bound: {}", SystemText(*error)),
             Why::Port(port, error) => {
                 write!(f, "the port {port} cannot be bound: {}", SystemText(*error))
             }

@@ -347,7 +347,7 @@ sent_count_families who s =
     gauge who (codes "aeron_recorder_sends") (codes "Recordings that are sent.") (decimal s.live)
     ∷ counter who (codes "aeron_recorder_sent_datagrams_total") (codes "Datagrams of recordings that were sent.") s.datagrams
     ∷ counter who (codes "aeron_recorder_sent_bytes_total") (codes "Bytes of such datagrams.") s.bytes
-    ∷ counter who (codes "aeron_recorder_sent_again_total") (codes "Datagrams of recordings that were repeated.") s.repeats
+    ∷ counter who (codes "aeron_recorder_repeated_datagrams_total") (codes "Datagrams of recordings that were repeated.") s.repeats
     ∷ []
 
 abbrev pub answer_families : List ℕ → SendsMeasures → List Family

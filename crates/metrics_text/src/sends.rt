@@ -109,7 +109,7 @@ fn put_sent_counts(out: &mut String, who: &str, sends: &SendsMeasures) -> Result
     put_counter(
         out,
         who,
-        "aeron_recorder_sent_again_total",
+        "aeron_recorder_repeated_datagrams_total",
         "Datagrams of recordings that were repeated.",
         sends.repeats,
     )

@@ -213,9 +213,8 @@ fn read_on<D: Disk, A: Naming, R: Wait + Clock, T: Reporter, E: Disk + Drop>(
     requires { replayer.old.held.pass.table ≡ A.table }
     ensures pass { IsBack replayer.old.held.pass replayer.new.held.pass }
 {
+    place.set_looking(replayer.is_all_read());
     let read = read_into(following, stream, bound, place, replayer);
-    // What comes next is a look at the archive, if no frame was there.
-    place.set_looking(matches!(read, ReadOn::Nothing | ReadOn::Later));
     if read == ReadOn::Read {
         keep_up(following, replayer);
     }

@@ -74,10 +74,10 @@ impl SendPlace {
 
     /// The same for the thread that sends, which does not wait for a look at the archive: None then.
     pub fn lock_to_send<R: Wait>(&self, rt: &R) -> Option<MutexGuard<'_, Option<ActiveSending>>> {
-        if self.is_looking.load(Ordering::SeqCst) {
-            self.sending.try_lock()
-        } else {
-            Some(self.sending.lock(rt))
+        match self.sending.try_lock() {
+            Some(sending) => Some(sending),
+            None if self.is_looking.load(Ordering::SeqCst) => None,
+            None => Some(self.sending.lock(rt)),
         }
     }
 

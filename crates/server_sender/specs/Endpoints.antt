@@ -29,9 +29,14 @@ is_unicast e =
     && (nat_lt e.address 0xE0000000 || nat_le 0xF0000000 e.address)
     && not (e.port == 0)
 
+-- what is sent there comes to a socket that is bound to this address: the port is its own, and so is the address, or it takes those of all
+abbrev pub is_received_at : SocketAddr → Endpoint → Bool
+is_received_at (V4 bound) e = v4_port bound == e.port && (ipv4_bits (v4_ip bound) == e.address || ipv4_bits (v4_ip bound) == 0)
+is_received_at (V6 bound) e = false
+
 -- a recording may be sent there: it is one host's, and not where datagrams for this server come to
 abbrev pub is_sendable : SocketAddr → Endpoint → Bool
-is_sendable receive e = is_unicast e && not (is_endpoint_of receive e)
+is_sendable receive e = is_unicast e && not (is_received_at receive e)
 
 -- the same address and port
 abbrev pub is_same : Endpoint → Endpoint → Bool

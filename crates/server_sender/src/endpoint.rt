@@ -2,7 +2,7 @@
 
 ghost use Rattle.std.specs.Prelude.{◌≡◌};
 ghost use Rattle.std.specs.Net.Text.{socket_v4_text};
-ghost use Rattle.server_sender.specs.Endpoints.{IsSocketOf, is_endpoint_at, is_endpoint_of, is_sendable, is_unicast};
+ghost use Rattle.server_sender.specs.Endpoints.{IsSocketOf, is_endpoint_at, is_endpoint_of, is_received_at, is_sendable, is_unicast};
 ghost use Rattle.server_sender.specs.Texts.{endpoint_text};
 
 use std::net::{Ipv4Addr, SocketAddr, SocketAddrV4};
@@ -59,6 +59,20 @@ impl Endpoint {
         address.ip().to_bits() == self.address && address.port() == self.port
     }
 
+    /// Whether what is sent to it comes to a socket that is bound to this address, or to 0.0.0.0, each address of its machine. Of
+    /// which machine an address is can't be known here: with 0.0.0.0 each endpoint of that port counts.
+    fn is_received_at(&self, bound: &SocketAddr) -> bool
+        ensures { result ≡ is_received_at bound.now self.now }
+    {
+        match bound {
+            SocketAddr::V4(bound) => {
+                let address = bound.ip().to_bits();
+                bound.port() == self.port && (address == self.address || address == 0)
+            }
+            SocketAddr::V6(_) => false,
+        }
+    }
+
     /// Whether it is one host's: no multicast address, not the broadcast address, not 0.0.0.0, and a port that isn't 0.
     fn is_unicast(&self) -> bool
         ensures { result ≡ is_unicast self.now }
@@ -75,5 +89,5 @@ impl Endpoint {
 pub fn is_sendable(endpoint: &Endpoint, receive: &SocketAddr) -> bool
     ensures { result ≡ is_sendable receive.now endpoint.now }
 {
-    endpoint.is_unicast() && !endpoint.is_endpoint_of(receive)
+    endpoint.is_unicast() && !endpoint.is_received_at(receive)
 }

@@ -1,6 +1,6 @@
 //! A replay of a shared archive whose frames are read beside its lock. docs/CONTROL.md, "Replays".
 
-ghost use Rattle.std.specs.Prelude.{◌≡◌, ◌⊎◌, ◌≤ℤ◌, [], pos, IfErr, IsErrOf, OnOk};
+ghost use Rattle.std.specs.Prelude.{◌≡◌, ◌⊎◌, ◌≤ℤ◌, [], int_lt, not, pos, IfErr, IsErrOf, OnOk};
 ghost use Rattle.frame_core.specs.ReplayEnd.{is_done};
 ghost use Rattle.frame_core.specs.declared.refusal.Refusal.TheVariants.{DeviceFault};
 ghost use Rattle.disk_core.specs.DiskImage.{reads};
@@ -87,6 +87,13 @@ impl<E: Disk + Drop> SettledReplayer<E> {
         let next = self.reader.next_position();
         self.held.look_if_read(rt, alloc, archive, next)?;
         self.reader.turn(alloc, self.held.seen(), most, taker)
+    }
+
+    /// Whether all that was seen is read: the next turn looks how far the recording is recorded by now. Does not allocate.
+    pub fn is_all_read(&self) -> bool
+        ensures { result ≡ not (int_lt self.now.reader.cursor.replay.next self.now.held.seen) }
+    {
+        self.reader.next_position() >= self.held.seen()
     }
 
     /// Whether the next frame is in a later segment than where the archive's replay was opened. Does not allocate.
