@@ -18,10 +18,10 @@ import time
 from pathlib import Path
 
 from measure import compiled
-from lib.tool import ROOT, Fault, conclude, file_system, program, room, run
+from lib.tool import ROOT, Fault, conclude, file_system, free_port, program, room, run
 
 sys.path.insert(0, str(ROOT / "trials"))
-from serving import Server, free_port  # noqa: E402
+from serving import Server  # noqa: E402
 
 LENGTH, TERM = 1_408, 16_777_216
 OF_SENDER, BESIDE_ONE, BESIDE_FOUR = 0.8, 0.9, 0.5  # goals

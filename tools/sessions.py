@@ -30,6 +30,7 @@ from lib.tool import free_port  # noqa: E402
 
 PAGES = [ROOT / "README.md", ROOT / "CONTRIBUTING.md", ROOT / "SECURITY.md", *sorted((ROOT / "docs").glob("*.md"))]
 BLOCK = re.compile(r"^```console\n(.*?)^```$", re.M | re.S)
+UNITS = ("recorder.service", "mirror.service")
 UNIT = re.compile(r"^```ini\n(.*?)^```$", re.M | re.S)
 LINK = re.compile(r"\[[^\]]*\]\(([^)\s]+)\)")
 TOOLCHAIN = re.compile(r"rattle-kit-(\d+)([a-z]*)( or later|)`?,?(?: of|) logic `?(\w+)")
@@ -132,10 +133,10 @@ def refused(page: Path, program: Path) -> Iterator[str]:
 
 
 def other_units() -> Iterator[str]:
-    """The unit that SERVING.md prints, if it is not the one of examples/operations/, or not the only one."""
-    page, file = ROOT / "docs/SERVING.md", ROOT / "examples/operations/recorder.service"
-    if UNIT.findall(page.read_text()) != [file.read_text()]:
-        yield f"{page.relative_to(ROOT)}: it does not print {file.relative_to(ROOT)}, or prints another unit"
+    """The units that SERVING.md prints, if they are not those of examples/operations/, or not the only ones."""
+    page, folder = ROOT / "docs/SERVING.md", ROOT / "examples/operations"
+    if UNIT.findall(page.read_text()) != [(folder / name).read_text() for name in UNITS]:
+        yield f"{page.relative_to(ROOT)}: it does not print {' and '.join(UNITS)} of {folder.relative_to(ROOT)}, or prints another unit"
 
 
 def anchor(head: str) -> str:

@@ -32,8 +32,8 @@ from pathlib import Path
 
 from lib.mounts import Skipped
 from lib.subscriber import SETUP, Subscriber, aligned
-from lib.tool import INITIAL_TERM, ROOT, SESSION_ID, STREAM_ID, Fault, conclude, dissected, expect, program, room, run, run_trials, trial_words
-from serving import Server, free_port, killed_at_last
+from lib.tool import INITIAL_TERM, ROOT, SESSION_ID, STREAM_ID, Fault, conclude, dissected, expect, free_port, program, room, run, run_trials, trial_words
+from serving import Server, killed_at_last
 
 sys.path.insert(0, str(ROOT / "examples"))
 from client import Client  # noqa: E402
