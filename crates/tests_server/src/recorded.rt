@@ -15,6 +15,7 @@ pub(crate) fn recorder(streams: &[i32]) -> ServeOptions<'_> {
         clients: None,
         streams,
         networks: Networks::new(),
+        send_to: Networks::new(),
         segment_length: SEGMENT_LENGTH,
         is_strict: false,
         is_measured: false,

@@ -16,7 +16,7 @@ const HELLO_AT_128: &[u8] =
     b"\x25\0\0\0\0\xc0\x01\0\x80\0\0\0\x07\0\0\0\xe9\x03\0\0\x2a\0\0\0\0\0\0\0\0\0\0\0hello";
 
 /// The setup frame of terms of 65,536 bytes from term 42 on, joined at its beginning.
-const SETUP: &[u8] = &[
+pub(crate) const SETUP: &[u8] = &[
     0x28, 0, 0, 0, 0, 0, 5, 0, 0, 0, 0, 0, 7, 0, 0, 0, 0xe9, 3, 0, 0, 0x2a, 0, 0, 0, 0x2a, 0, 0, 0,
     0, 0, 1, 0, 0x80, 5, 0, 0, 0, 0, 0, 0,
 ];
