@@ -74,8 +74,8 @@ impl Receiver {
         })
     }
 
-    /// Whether the next datagram is this one, but for those of another one that come before it.
-    fn hears(&mut self, wanted: &[u8], other: &[u8]) -> bool {
+    /// Whether the next datagram is this one, but for any of two others that come before it.
+    fn hears(&mut self, wanted: &[u8], others: [&[u8]; 2]) -> bool {
         let mut buffer = [0; 2_048];
         for _ in 0..1_000 {
             let Ok((count, sender)) = self.socket.recv_from(buffer.as_mut_slice()) else {
@@ -86,7 +86,7 @@ impl Receiver {
             if came == Some(wanted) {
                 return true;
             }
-            if came != Some(other) {
+            if came != Some(others[0]) && came != Some(others[1]) {
                 return false;
             }
         }
@@ -189,11 +189,12 @@ fn holds<R: Clock>(
     }
 }
 
-/// Whether the recording's frames are sent, once a status message came.
+/// Whether the recording's frames are sent, once a status message came. A heartbeat may come before them.
 fn is_sent(receiver: &mut Receiver) -> bool {
-    receiver.hears(SETUP, &[])
+    let quiet = sign(0xC0, 0);
+    receiver.hears(SETUP, [&[]; 2])
         && receiver.consumes(0)
-        && receiver.hears(both().as_slice(), SETUP)
+        && receiver.hears(both().as_slice(), [SETUP, quiet.as_slice()])
         && receiver.consumes(128)
 }
 
@@ -211,9 +212,9 @@ fn is_bounded<R: Clock>(
     Some(
         client.asks(alloc, line.as_str(), "sending 0")
             && is_sent(receiver)
-            && receiver.hears(end.as_slice(), quiet.as_slice())
-            && receiver.hears(end.as_slice(), &[])
-            && receiver.hears(end.as_slice(), &[])
+            && receiver.hears(end.as_slice(), [quiet.as_slice(), &[]])
+            && receiver.hears(end.as_slice(), [&[]; 2])
+            && receiver.hears(end.as_slice(), [&[]; 2])
             && is_listed(rt, alloc, client, known.as_str())
             && client.asks(alloc, "stop-sending 0", "stopped-sending 128")
             && client.asks(alloc, "sends", "end 0"),
@@ -255,7 +256,7 @@ fn is_unheard(
     let open = format!(in alloc; "open 0 0 64 -1 send {address}").ok()?;
     Some(
         client.asks(alloc, line.as_str(), "sending 0")
-            && receiver.hears(SETUP_AT_64, &[])
+            && receiver.hears(SETUP_AT_64, [&[]; 2])
             && client.asks(alloc, line.as_str(), "error 4 ActiveReplay")
             && client.asks(alloc, "replays", open.as_str())
             && client.hears(alloc, "end 1")
