@@ -8,8 +8,8 @@ use Rattle.folder_commands.proofs.serving.send_address.Goals as goal
 pub returns-in-Ok : goal.returns-in-Ok
 returns-in-Ok c =
     ⊎_elim
-        (λ no. true≢false (sym (c.if-is_multicast.ensures.1 (subst IsMulticastV4 (sym c.ip.ensures) (subst (λ a. IsMulticastV4 (v4_ip a)) (IsSocketV4Text_unique _ _ _ no.1 c.in-Ok.ensures.value) no.2)))))
-        (λ no. no.0 _ c.in-Ok.ensures.value)
+    (λ no. true≢false (sym (c.if-is_multicast.ensures.1 (subst IsMulticastV4 (sym c.ip.ensures) (subst (λ a. IsMulticastV4 (v4_ip a)) (IsSocketV4Text_unique _ _ _ no.1 c.in-Ok.ensures.value) no.2)))))
+    (λ no. no.0 _ c.in-Ok.ensures.value)
 
 pub returns-in_err-address : goal.returns-in_err-address
 returns-in_err-address c =
