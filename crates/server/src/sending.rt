@@ -76,7 +76,8 @@ pub(crate) fn send_recording<D: Disk, A: Naming, R: Wait + Clock, T: Reporter, E
         }
     };
     begin(following, &replayer, &stream, asked, &request, number);
-    with.followers.answer(*rt, *place, Ok(number as i64));
+    let answer = i64::try_from(number).unwrap_or(i64::MAX);
+    with.followers.answer(*rt, *place, Ok(answer));
     let _ = with.followers.stream(*rt, *place).is_some();
     read_all(following, &stream, request.bound, &mut replayer);
     finish(following, replayer, number)
