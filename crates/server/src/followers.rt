@@ -267,8 +267,7 @@ impl Followers {
     }
 
     /// Asks for frames, and waits until a thread has answered: a claim to its place, and where the frames begin, or the number of the
-    /// sending. `MaxReplays`
-    /// if no place is free, `BadLine` if there are none, `Broken` if no archive is open.
+    /// sending. `MaxReplays` if no place is free, `BadLine` if there are none, `Broken` if no archive is open.
     pub fn ask<R: Wait>(&self, rt: &R, asked: &Asked) -> Result<(Claim, i64), Refusal> {
         if !self.are_served() {
             return Err(Refusal::BadLine);

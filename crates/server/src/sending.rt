@@ -16,7 +16,9 @@ use archive_lock::{Made, Naming};
 use call_history::Pass;
 use disk_core::Disk;
 use frame_core::{Refusal, replay_bound};
-use server_sender::{Endpoint, LastFrames, Publishing, SendOver, SendRequest, SendState};
+use server_sender::{
+    Endpoint, LastFrames, Publishing, SendOver, SendProgress, SendRequest, SendState,
+};
 use server_state::{Happening, ReplayReader, Reporter, SendNews};
 use settled_replays::SettledReplayer;
 use std::rt::Clock;
@@ -351,7 +353,8 @@ fn note_end<D: Disk, A: Naming, R: Wait, T: Reporter>(
         .sends
         .end(*rt, ended.number, state_after(&ended.over));
     if !with.has_ended() {
-        with.shared.report(&Happening::Sending(news_of(ended)));
+        with.shared
+            .report(&Happening::Sending(news_of(ended, &progress)));
     }
 }
 
@@ -365,8 +368,7 @@ fn state_after(over: &Option<SendOver>) -> SendState {
 }
 
 /// What is reported of a sending that ended.
-fn news_of(ended: &ActiveSending) -> SendNews {
-    let progress = ended.publishing.progress();
+fn news_of(ended: &ActiveSending, progress: &SendProgress) -> SendNews {
     let send = ended.number;
     match ended.over {
         Some(SendOver::Done) => SendNews::Done {

@@ -1,2 +1,3 @@
 mod EachLemmas
+mod LineLemmas
 mod SteppingLemmas

@@ -1,13 +1,12 @@
 -- Steps of a sending, one after another.
-use Rattle.std.proofs.Common.{◌≡◌, ◌⊎◌, ◌≤◌, inl, inr, ◌+◌, ℕ, suc, zero, List, Result, subst, refl, arith}
+use Rattle.std.proofs.Common.{◌≡◌, ◌≤◌, inl, inr, ◌+◌, ℕ, suc, zero, List, subst, refl, arith}
 use Rattle.std.specs.Prelude.{Err, Ok}
 use Rattle.std.specs.declared.alloc.AllocError.{AllocError}
 use Rattle.server_sender.specs.declared.endpoint.Endpoint.{Endpoint}
 use Rattle.server_sender.specs.declared.publishing.SendOver.{SendOver}
-use Rattle.server_sender.specs.declared.stepping.Stepped.{Stepped}
 use Rattle.server_sender.specs.declared.stepping.Stepped.TheVariants.{Idle, Over, Sent}
 use Rattle.server_sender.specs.Publishing.{PublishingView}
-use Rattle.server_sender.specs.Stepping.{EndsRun, FailsToStep, HasSent, SendsRun, StepsBy, StepsOnce, StepsSent, due_now, stepped_after}
+use Rattle.server_sender.specs.Stepping.{FailsToStep, SendsRun, StepsBy, StepsOnce, StepsSent, due_now, stepped_after}
 use Rattle.publication_core.specs.declared.due.Due.{Due}
 use Rattle.publication_core.specs.declared.due.Due.TheVariants as dues
 

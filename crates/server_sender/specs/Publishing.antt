@@ -1,5 +1,5 @@
 -- A sending that is under way: docs/PROTOCOL.md, "Publications of recordings".
-use Rattle.std.specs.Prelude.{◌≡◌, ◌+◌, ◌&&◌, ℕ, ℤ, nat_lt, not, unsigned_abs, Bool, true, false, if◌then◌else◌, Option, None, Some, is_some}
+use Rattle.std.specs.Prelude.{◌≡◌, ◌&&◌, ℕ, ℤ, nat_lt, not, unsigned_abs, Bool, true, false, if◌then◌else◌, Option, None, Some, is_some}
 use Rattle.frame_core.specs.declared.block.Publication.{Publication}
 use Rattle.frame_core.specs.declared.frame.Frame.{Frame}
 use Rattle.frame_core.specs.declared.geometry.Geometry.{Geometry}

@@ -1,5 +1,5 @@
 -- What goes to an endpoint, and when: docs/PROTOCOL.md, "Publications of recordings".
-use Rattle.std.specs.Prelude.{◌≡◌, ◌⊎◌, ◌≤◌, ◌+◌, ◌-◌, ◌&&◌, ◌^◌, ℕ, zero, suc, min, not, nat_le, nat_lt, Bool, true, false, if◌then◌else◌, List, Option, None, Some, is_some, slice_get, Result, Ok, Err}
+use Rattle.std.specs.Prelude.{◌≡◌, ◌⊎◌, ◌≤◌, ◌+◌, ◌-◌, ◌&&◌, ◌^◌, ℕ, zero, suc, min, not, nat_lt, Bool, true, false, List, Option, None, Some, is_some, slice_get, Result, Ok, Err}
 use Rattle.std.specs.declared.alloc.AllocError.{AllocError}
 use Rattle.frame_core.specs.declared.frame.Frame.{Frame}
 use Rattle.frame_core.specs.declared.setup.Setup.{Setup}

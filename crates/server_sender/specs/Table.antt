@@ -1,5 +1,5 @@
 -- Which sendings there are: docs/CONTROL.md, "Sendings".
-use Rattle.std.specs.Prelude.{◌≡◌, ◌+◌, ◌-◌, ◌++◌, ◌==◌, ◌&&◌, ◌^◌, ◌⊎◌, ℕ, pos, not, nat_lt, Bool, true, false, if◌then◌else◌, List, [], ◌∷◌, count_by, map, remove, slice_get, Option, None, Some, Result, Ok, Err}
+use Rattle.std.specs.Prelude.{◌≡◌, ◌+◌, ◌-◌, ◌++◌, ◌==◌, ◌&&◌, ◌^◌, ℕ, not, nat_lt, Bool, true, false, if◌then◌else◌, List, [], ◌∷◌, count_by, map, remove, slice_get, Option, None, Some, Result, Ok, Err}
 use Rattle.std.specs.List.{list_any, position}
 use Rattle.std.specs.Ordering.{int_eq}
 use Rattle.std.specs.declared.net.socket_addr.SocketAddr.{SocketAddr}

@@ -1,8 +1,9 @@
 //! The lines `send` and `stop-sending`, and their answers. docs/CONTROL.md, "Sendings".
 
-ghost use Rattle.std.specs.Prelude.{◌≡◌, ◌++◌, IfOk, IfSome, codes, string_bytes};
+ghost use Rattle.std.specs.Prelude.{◌≡◌, ◌++◌, ℤ, ℕ, List, FitsSigned, IfOk, IfSome, IfNone, codes, string_bytes};
 ghost use Rattle.std.specs.Fmt.{signed_decimal};
-ghost use Rattle.server_sender.specs.Lines.{fields_text, sends_line_text, sending_text, stopped_text};
+ghost use Rattle.std.specs.Int.{w64};
+ghost use Rattle.server_sender.specs.Lines.{AreFields, IsEndpoint, IsLine, IsRead, fields_text, sends_line_text, sending_text, stopped_text};
 ghost use Rattle.server_sender.specs.Texts.{endpoint_text};
 
 use crate::endpoint::Endpoint;
@@ -34,7 +35,7 @@ pub enum SendLine {
 /// The line that a text is, without its end. None if it is neither `send` nor `stop-sending` with its words. Each word is as it is
 /// printed: no sign but `-`, no zero in front. AllocError if there is no memory.
 pub fn send_line(alloc: Global, text: &[u8]) -> Result<Option<SendLine>, AllocError>
-    ensures { IfOk result (λ found. IfSome found (λ line. text.now ≡ sends_line_text line)) }
+    ensures { IfOk result (λ found. IsRead sends_line_text IsLine text.now found) }
 {
     match std::str::from_utf8(text) {
         Ok(text) => line_in(alloc, text),
@@ -44,7 +45,7 @@ pub fn send_line(alloc: Global, text: &[u8]) -> Result<Option<SendLine>, AllocEr
 
 /// The line that a text is.
 fn line_in(alloc: Global, text: &str) -> Result<Option<SendLine>, AllocError>
-    ensures { IfOk result (λ found. IfSome found (λ line. text.now ≡ sends_line_text line)) }
+    ensures { IfOk result (λ found. IsRead sends_line_text IsLine text.now found) }
 {
     if let Some(words) = text.strip_prefix("send ") {
         return sending_of(alloc, words);
@@ -57,7 +58,7 @@ fn line_in(alloc: Global, text: &str) -> Result<Option<SendLine>, AllocError>
 
 /// The line `send` with these words.
 fn sending_of(alloc: Global, text: &str) -> Result<Option<SendLine>, AllocError>
-    ensures { IfOk result (λ found. IfSome found (λ line. codes "send" ++ (codes " " ++ text.now) ≡ sends_line_text line)) }
+    ensures { IfOk result (λ found. IsRead sends_line_text IsLine (codes "send" ++ (codes " " ++ text.now)) found) }
 {
     match fields_of(alloc, text)? {
         Some(fields) => Ok(Some(SendLine::Send(fields))),
@@ -67,7 +68,7 @@ fn sending_of(alloc: Global, text: &str) -> Result<Option<SendLine>, AllocError>
 
 /// The line `stop-sending` with this word.
 fn stop_of(word: &str) -> Option<SendLine>
-    ensures { IfSome result (λ line. codes "stop-sending" ++ (codes " " ++ word.now) ≡ sends_line_text line) }
+    ensures { IsRead sends_line_text IsLine (codes "stop-sending" ++ (codes " " ++ word.now)) result }
 {
     let number = number_of(word)?;
     Some(SendLine::Stop(number))
@@ -75,7 +76,7 @@ fn stop_of(word: &str) -> Option<SendLine>
 
 /// What these words of a line ask for.
 fn fields_of(alloc: Global, text: &str) -> Result<Option<SendFields>, AllocError>
-    ensures { IfOk result (λ found. IfSome found (λ fields. text.now ≡ fields_text fields)) }
+    ensures { IfOk result (λ found. IsRead fields_text AreFields text.now found) }
 {
     let Some((recording, rest)) = number_before(text) else {
         return Ok(None);
@@ -99,7 +100,8 @@ fn fields_of(alloc: Global, text: &str) -> Result<Option<SendFields>, AllocError
 
 /// The number before the first blank, and what is left after that.
 fn number_before(text: &str) -> Option<(i64, &str)>
-    ensures { IfSome result (λ found. text.now ≡ signed_decimal found.0 ++ (codes " " ++ found.1.now)) }
+    ensures some { IfSome result (λ found. text.now ≡ signed_decimal found.0 ++ (codes " " ++ found.1.now)) }
+    ensures none { IfNone result ((z : ℤ) (rest : List ℕ) → FitsSigned w64 z → ¬ (text.now ≡ signed_decimal z ++ (codes " " ++ rest))) }
 {
     let (word, rest) = text.split_once(' ')?;
     let number = number_of(word)?;
@@ -108,7 +110,7 @@ fn number_before(text: &str) -> Option<(i64, &str)>
 
 /// The number that a word is, as it is printed.
 fn number_of(word: &str) -> Option<i64>
-    ensures { IfSome result (λ number. word.now ≡ signed_decimal number) }
+    ensures { IsRead signed_decimal (FitsSigned w64) word.now result }
 {
     let Ok(value) = word.parse::<i64>() else {
         return None;
@@ -122,7 +124,7 @@ fn number_of(word: &str) -> Option<i64>
 
 /// The endpoint that a word is, as it is printed.
 fn endpoint_of(alloc: Global, word: &str) -> Result<Option<Endpoint>, AllocError>
-    ensures { IfOk result (λ found. IfSome found (λ endpoint. word.now ≡ endpoint_text endpoint)) }
+    ensures { IfOk result (λ found. IsRead endpoint_text IsEndpoint word.now found) }
 {
     let Ok(address) = word.parse::<SocketAddrV4>() else {
         return Ok(None);

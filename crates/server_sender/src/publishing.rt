@@ -130,11 +130,6 @@ impl Publishing {
         self.last.is_none() && self.sender.flow().ends_left.is_none() && self.sender.wants_frames()
     }
 
-    /// Where the next frame is laid, in bytes of the stream. Does not allocate.
-    pub fn lay_position(&self) -> u64 {
-        self.sender.lay_position()
-    }
-
     /// How far it is. Does not allocate.
     pub fn progress(&self) -> SendProgress
         ensures { result ≡ sending_progress self.now }

@@ -1,5 +1,5 @@
 -- Each sending is changed where it is.
-use Rattle.std.proofs.Common.{◌≡◌, ◌∙◌, List, [], append-nil, drop, drop_of_length-le, length, sym, ap, take, take_all, arith}
+use Rattle.std.proofs.Common.{◌≡◌, ◌∙◌, List, [], append-nil, drop, drop_of_length-le, length, ap, take, take_all, arith}
 use Rattle.server_sender.specs.declared.record.SendRecord.{SendRecord}
 use Rattle.server_sender.specs.Table.{noted_progress}
 use Rattle.server_sender.proofs.EachLemmas.{all_changed, changed_more}
