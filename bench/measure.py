@@ -5,11 +5,13 @@ import subprocess
 import sys
 import tempfile
 import time
-from collections.abc import Sequence
+from collections.abc import Iterator, Sequence
+from contextlib import contextmanager
 from dataclasses import dataclass
 from pathlib import Path
 
 HERE = Path(__file__).resolve().parent
+RECEIVE_BUFFER, LARGE_BUFFER = Path("/proc/sys/net/core/rmem_default"), 8_388_608  # bytes of each socket that is made
 sys.path.insert(0, str(HERE.parent / "trials"))
 
 
@@ -31,6 +33,24 @@ def seconds(words: Sequence[str | Path], given: Path | None = None, into: Path |
 def most_memory() -> int:
     """The most megabytes that a program which has ended held, or that this one did when it began it: for who compiles nothing."""
     return resource.getrusage(resource.RUSAGE_CHILDREN).ru_maxrss // 1024
+
+
+def large_buffer() -> int | None:
+    """The size of a large receive buffer; None where the system's default can't be changed."""
+    return LARGE_BUFFER if os.access(RECEIVE_BUFFER, os.W_OK) else None
+
+
+@contextmanager
+def receive_buffer(size: int | None) -> Iterator[None]:
+    """Gives each socket that is made meanwhile a receive buffer so large; None leaves it as it is."""
+    usual = RECEIVE_BUFFER.read_text()
+    if size is not None:
+        RECEIVE_BUFFER.write_text(str(size))
+    try:
+        yield
+    finally:
+        if size is not None:
+            RECEIVE_BUFFER.write_text(usual)
 
 
 @dataclass(frozen=True)

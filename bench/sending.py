@@ -6,22 +6,22 @@ Usage: bench/sending.py [--frames N] [--runs N] [program], on the file system of
 Frames of 1,408 bytes go to the same receiver (subscriber.rs) over UDP of this machine, in turn:
 - from a recording, by `send`;
 - from `sender.rs --flow-control`.
-Then a stream is recorded as fast as it goes, alone, next to one sending and next to four.
+Then a stream is recorded as fast as it goes, alone, while one sending follows its recording, and while four do.
 """
 import argparse
 import socket
 import statistics
 import subprocess
 import sys
-import tempfile
+import threading
 import time
 from pathlib import Path
 
-from measure import compiled
-from lib.tool import ROOT, Fault, conclude, file_system, free_port, program, room, run
+from measure import compiled, large_buffer, receive_buffer
+from lib.tool import ROOT, Fault, await_that, conclude, file_system, free_port, program, room, run
 
 sys.path.insert(0, str(ROOT / "trials"))
-from serving import Server  # noqa: E402
+from serving import Server, served, socket_words  # noqa: E402
 
 LENGTH, TERM = 1_408, 16_777_216
 OF_SENDER, BESIDE_ONE, BESIDE_FOUR = 0.8, 0.9, 0.5  # goals
@@ -35,10 +35,14 @@ def covered(frames: int) -> int:
 
 
 def subscriber(binary: Path, frames: int, *words: str) -> tuple[int, "subprocess.Popen[str]"]:
-    """A receiver of so many frames: its port, and itself."""
+    """A receiver of so many frames: its port, and itself. If the system lets it, its socket holds 8 MiB, since a sender with flow control
+    sends a window at once."""
     port = free_port(socket.SOCK_DGRAM)
     command = [str(binary), str(port), str(covered(frames)), *words]
-    return port, subprocess.Popen(command, stdout=subprocess.PIPE, text=True)
+    with receive_buffer(large_buffer()):
+        receiver = subprocess.Popen(command, stdout=subprocess.PIPE, text=True)
+        await_that("a receiver", lambda: socket_words(port), pause=0.005)
+    return port, receiver
 
 
 def rate(receiver: "subprocess.Popen[str]", frames: int) -> float:
@@ -72,20 +76,26 @@ def by_sender(sender: Path, binary: Path, frames: int) -> float:
     return rate(receiver, frames)
 
 
-def beside(tool: Path, sender: Path, binary: Path, archive: Path, count: int, frames: int) -> float:
-    """The rate of a recorder next to so many sendings of another archive's recording."""
-    with tempfile.TemporaryDirectory(dir=archive.parent) as other:
-        origin = Server(tool, archive, *OPTIONS)
-        server = Server(tool, Path(other), "--aeron", "--clients", "4")
-        ports = [subscriber(binary, frames) for _ in range(count)]
-        for port, _ in ports:
-            origin.ask(f"send 0 0 -1 127.0.0.1:{port}")
+def beside(tool: Path, sender: Path, binary: Path, count: int, frames: int) -> float:
+    """The rate of a recorder while so many sendings follow the recording."""
+    with served(tool, *OPTIONS) as (server, _):
+        receivers = [subscriber(binary, frames) for _ in range(count)]
+        begun = threading.Thread(target=send_to, args=(server, [port for port, _ in receivers]))
+        begun.start()
         found = recorded(server, sender, frames)
-        for _, receiver in ports:
+        begun.join()
+        for _, receiver in receivers:
             receiver.kill()
         server.process.wait(60)
-        origin.quit()
         return found
+
+
+def send_to(server: Server, ports: list[int]) -> None:
+    """Sends the first recording to each port, as soon as it is there."""
+    client = server.client()
+    for port in ports:
+        await_that("a sending", lambda: next(client.ask(f"send 0 0 -1 127.0.0.1:{port}")).startswith("sending "), pause=0.005)
+    client.close()
 
 
 def main() -> int:
@@ -108,7 +118,7 @@ def main() -> int:
         print(f"a sending has {ratio:.2f} of the sender's rate (goal {OF_SENDER})")
         server.quit()
         alone, one, four = (
-            statistics.median(beside(tool, sender, binary, archive, count, frames) for _ in range(asked.runs)) for count in (0, 1, 4)
+            statistics.median(beside(tool, sender, binary, count, frames) for _ in range(asked.runs)) for count in (0, 1, 4)
         )
         print(f"a recorder has {one / alone:.2f} of its rate next to one sending (goal {BESIDE_ONE}), {four / alone:.2f} next to four (goal {BESIDE_FOUR})")
         if ratio < OF_SENDER or one / alone < BESIDE_ONE or four / alone < BESIDE_FOUR:

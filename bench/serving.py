@@ -30,7 +30,7 @@ from contextlib import contextmanager
 from dataclasses import dataclass
 from pathlib import Path
 
-from measure import compiled
+from measure import RECEIVE_BUFFER, compiled, large_buffer, receive_buffer
 from lib.tool import ROOT, Fault, conclude, expect, file_system, free_port, program, room, run, stop_positions
 
 sys.path.insert(0, str(ROOT / "trials"))
@@ -41,7 +41,6 @@ FRAME = 1_408
 BLOCK = 46 * FRAME
 BATCH = 16
 LEAST, GOAL, BESIDE_POLLS = 0.5, 0.8, 0.9
-BUFFER, LARGE_BUFFER = Path("/proc/sys/net/core/rmem_default"), 8_388_608
 
 
 @dataclass(frozen=True)
@@ -68,19 +67,6 @@ class Found:
     entries: float
     processor: float
     rest: str
-
-
-@contextmanager
-def receive_buffer(size: int | None) -> Iterator[None]:
-    """Gives each socket that is made meanwhile a receive buffer so large; None leaves it as it is."""
-    usual = BUFFER.read_text()
-    if size is not None:
-        BUFFER.write_text(str(size))
-    try:
-        yield
-    finally:
-        if size is not None:
-            BUFFER.write_text(usual)
 
 
 def started(tool: Path, folder: Path, kind: Kind) -> Server:
@@ -243,8 +229,8 @@ def library(folder: Path, frames: int) -> float:
 
 def kinds() -> list[Kind]:
     """The kinds of run with a server: with flow control, and with a sender that paces itself, alone and beside a late consumer."""
-    large = LARGE_BUFFER if os.access(BUFFER, os.W_OK) else None
-    print(f"the system's default receive buffer has {BUFFER.read_text().strip()} bytes"
+    large = large_buffer()
+    print(f"the system's default receive buffer has {RECEIVE_BUFFER.read_text().strip()} bytes"
           + ("" if large else "; it can't be enlarged here"), flush=True)
     return [Kind("with flow control", ("--flow-control",), ("--aeron",), None), Kind("paced by `positions`", (), (), large),
             Kind("paced, beside polls", (), ("--clients", "2"), large, polls=1)]
