@@ -31,11 +31,11 @@ from pathlib import Path
 
 from serving import (
     PATIENCE, STREAM, Client, Faults, Server, compare, payload, publication_of, recorded_position, served, settles, start_line,
-    write_capture,
 )
+from lib.captures import dissected, malformed, read_numbers, write_capture
 from lib.tool import (
-    INITIAL_TERM, ROOT, SESSION_ID, STREAM_ID, Fault, conclude, dissected, expect, file_system, free_port, program, read_numbers, room, run,
-    run_trials, stop_positions, trial_words,
+    INITIAL_TERM, ROOT, SESSION_ID, STREAM_ID, Fault, conclude, expect, file_system, free_port, program, room, run, run_trials, stop_positions,
+    trial_words,
 )
 
 sys.path.insert(0, str(ROOT / "examples"))
@@ -387,17 +387,11 @@ def read_by_wireshark(tool: Path, chance: random.Random, count: int) -> None:
         came += sender.status_messages
         capture = archive.parent / "capture.pcap"
         write_capture(capture, came)
-        expect("malformed status messages", malformed(capture), 0)
-        read = dissected(capture, 40_123, STATUS_FIELDS)
+        expect("malformed status messages", malformed(capture), [])
+        read = dissected(capture, STATUS_FIELDS)
         differences = sum(one != numbers_of(datagram) for one, datagram in zip(read, came, strict=True))
         expect("differences between what was sent and what tshark reads", differences, 0)
         print(f"{len(came)} status messages, as tshark reads them", flush=True)
-
-
-def malformed(capture: Path) -> int:
-    """How many datagrams of a capture file are malformed to Wireshark's dissector."""
-    words = ["tshark", "-r", capture, "-d", "udp.port==40123,aeron", "-Y", "_ws.malformed"]
-    return len(subprocess.run(words, capture_output=True, text=True, check=True).stdout.splitlines())
 
 
 def numbers_of(status_message: bytes) -> list[int]:

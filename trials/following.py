@@ -265,23 +265,24 @@ def ends_and_bounds(tool: Path) -> None:
 
 
 def protected(tool: Path) -> None:
-    """While it is followed a recording is not truncated, and not purged but for segments that were passed."""
+    """While it is followed a recording is not truncated, and not purged but for segments that were passed. The system keeps up to 4 MiB
+    of what is sent, so a follower that takes nothing stands within the first five segments."""
     with served_by(Consumed, tool, "--idle", "600") as (server, archive):
         client = server.client()
         expect("start", list(client.ask(start_line(SESSION_ID))), ["started 0 0"])
         end = 0
-        while end < 3 * STREAM.segment_length:
+        while end < 6 * STREAM.segment_length:
             room_left = STREAM.term_length - end % STREAM.term_length
             end = record(client, 1, 0, end, min(1_408, room_left))
         expect("stop", list(client.ask("stop 0 2000")), [f"stopped {end}"])
         slow = Looking(server.consumers, 0, 0, buffer=4_096)
         expect("the answer", slow.answer, "following 0")
-        for line in ("truncate 0 0", "purge 0", f"purge-segments 0 {2 * STREAM.segment_length}"):
+        for line in ("truncate 0 0", "purge 0", f"purge-segments 0 {5 * STREAM.segment_length}"):
             expect(line, list(client.ask(line)), ["error 4 ActiveReplay"])
         expect("how it ends", (slow.to_end(), slow.position), (END_OF_STREAM, end))
         expect("what came", slow.text, stored(archive, 0, 0, end))
         until = time.monotonic() + PATIENCE
-        while list(client.ask(f"purge-segments 0 {2 * STREAM.segment_length}")) != ["purged 2"]:
+        while list(client.ask(f"purge-segments 0 {5 * STREAM.segment_length}")) != ["purged 5"]:
             if time.monotonic() > until:
                 raise Fault("a follower that has ended keeps its replay")
             time.sleep(0.05)
@@ -289,7 +290,7 @@ def protected(tool: Path) -> None:
         late = Looking(server.consumers, 0, 0)
         expect("before the start", late.answer, "error 5 BadPosition")
         late = Looking(server.consumers, 0, -1)
-        expect("from the start", (late.answer, late.to_end()), (f"following {2 * STREAM.segment_length}", END_OF_STREAM))
+        expect("from the start", (late.answer, late.to_end()), (f"following {5 * STREAM.segment_length}", END_OF_STREAM))
         expect("what is left", late.text, known_recording(archive, 0)[1])
         client.close()
         server.quit()

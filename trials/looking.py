@@ -30,8 +30,9 @@ from pathlib import Path
 
 from lib.mounts import Skipped, make_ext4, mounted
 from serving import IN_FLIGHT, Sender, Server, served, start_line
+from lib.captures import dissected, told_of_frame
 from lib.tool import (
-    SESSION_ID, Fault, Session, Stream, aligned, conclude, dissected, expect, program, replayed, room, run, told_of_frame, trial_words,
+    SESSION_ID, Fault, Session, Stream, aligned, conclude, expect, program, replayed, room, run, trial_words,
 )
 
 STREAM = Stream(term_length=65_536, segment_length=65_536)
@@ -286,7 +287,7 @@ def try_export(tool: Path, path: Path, frames: int) -> None:
     sent = [frame if frame[6] == 0 else frame.ljust(aligned(len(frame)), b"\0") for frame in told]
     expect("the frames", packets(capture.read_bytes()) == [("224.0.1.1", 40_456, frame) for frame in sent], True)
     if shutil.which("tshark"):
-        differences = sum(one != other for one, other in zip(dissected(capture, 40_456), map(told_of_frame, told), strict=True))
+        differences = sum(one != other for one, other in zip(dissected(capture, port=40_456), map(told_of_frame, told), strict=True))
         expect("differences between what was recorded and what tshark reads", differences, 0)
         print(f"{len(told)} frames, as tshark reads them")
     else:

@@ -37,9 +37,9 @@ from pathlib import Path
 
 from flow_control import FaultySender
 from lib.alert_cases import CASES, alerts_of, write_tests
-from lib.collectors import EXPORTER, PROMETHEUS, Prometheus, await_that, exporter, fetched, prometheus
+from lib.collectors import EXPORTER, PROMETHEUS, Prometheus, exporter, fetched, prometheus
 from lib.mounts import Skipped
-from lib.tool import ROOT, SESSION_ID, Fault, Stream, conclude, expect, free_port, program, room, run, run_trials, trial_words
+from lib.tool import ROOT, SESSION_ID, Fault, Stream, await_that, conclude, expect, free_port, program, room, run, run_trials, trial_words
 from lib.unit import Unit
 from serving import PATIENCE, STREAM, Client, Faults, Server, served
 
@@ -49,7 +49,8 @@ SERVING = ROOT / "docs/SERVING.md"
 FAMILIES = ROOT / "crates/metrics_text/specs/MetricsText.antt"
 FIRST = "aeron_recorder_"
 MOST_EXPOSED = 3.0
-SOMETIMES = {"replay_position_bytes", "publication_hole_bytes"}  # measures of what need not be there: an open replay, a hole
+# measures of what need not be there: an open replay, a hole, a sending
+SOMETIMES = {"replay_position_bytes", "publication_hole_bytes", "sender_position_bytes", "sender_limit_bytes", "consumed_by_receiver_bytes"}
 RECORDER_USER = 4_001  # a user without a name is one too
 COLLECTOR_USER = "prometheus"
 
@@ -250,9 +251,9 @@ def use(host: Host) -> None:
     expect("the recording", next(iter(client.ask("positions 0"))).split()[0], "positions")
     for line in ("images", "replay 0 0 -1", "poll 0 64", "close 0", "checkpoint", "sweep", "list 0 10"):
         expect(line, [it for it in client.ask(line) if it.startswith("error ")], [])
-    follower = client_of(host)
-    expect("follow", next(iter(follower.ask("follow 0 0 64"))), "following 0")
-    follower.socket.close()
+    with socket.create_connection(("127.0.0.1", host.control), PATIENCE) as follower, follower.makefile("rb") as frames:
+        follower.sendall(b"follow 0 0 64\n")
+        expect("follow", frames.readline(), b"following 0\n")
     client.close()
 
 
@@ -269,8 +270,8 @@ def try_calls(tool: Path) -> None:
         server = subprocess.Popen(traced(host, "ExecStart", logs[1]), stderr=subprocess.DEVNULL)
         try:
             use(host)
-            await_that("a file of metrics", host.metrics.exists, lambda: "")
-            await_that("a file of times", lambda: any(host.times.iterdir()), lambda: "")
+            await_that("a file of metrics", host.metrics.exists)
+            await_that("a file of times", lambda: any(host.times.iterdir()))
             own = int(re.findall(r"^\d+", logs[1].read_text(), re.M)[0])
             stop = subprocess.run(["strace", "-f", "-qq", "-o", logs[2], *host.words("ExecStop", own)], capture_output=True, timeout=PATIENCE)
             expect("ExecStop", (stop.returncode, stop.stdout), (0, b"bye\n"))
@@ -358,7 +359,7 @@ def try_alerts(found: Prometheus, hosts: list[Host], senders: list[FaultySender]
     client.close()
     await_alerts("an alert of each that was killed", found, running | {("Down", str(host.metrics)) for host in hosts}, [])
     hosts[0].metrics.with_name("of-others.prom").touch(mode=0o600)
-    await_that("a file that can't be read", lambda: found.values("node_textfile_scrape_error == 1"), lambda: "")
+    await_that("a file that can't be read", lambda: found.values("node_textfile_scrape_error == 1"))
 
 
 def make_folder(path: Path, user: int, group: int, mode: int) -> Path:

@@ -23,16 +23,19 @@ import socket
 import struct
 import subprocess
 import sys
-import tempfile
 import threading
 import time
 from collections.abc import Callable, Iterator
 from contextlib import contextmanager
 from pathlib import Path
 
+from lib.captures import dissected, malformed, write_capture
 from lib.mounts import Skipped
-from lib.subscriber import SETUP, Subscriber, aligned
-from lib.tool import INITIAL_TERM, ROOT, SESSION_ID, STREAM_ID, Fault, conclude, dissected, expect, free_port, program, room, run, run_trials, trial_words
+from lib.subscriber import SETUP, Subscriber
+from lib.tool import (
+    INITIAL_TERM, ROOT, SESSION_ID, STREAM_ID, Fault, aligned, await_that, conclude, expect, free_port, program, room, run, run_trials,
+    trial_words,
+)
 from serving import Server, killed_at_last
 
 sys.path.insert(0, str(ROOT / "examples"))
@@ -48,12 +51,15 @@ START = f"start {STREAM_ID} {{}} {INITIAL_TERM} {TERM} {MTU} {SEGMENT} 0 1000 li
 class Origin(Server):
     """A `serve` that may send recordings to this machine."""
 
-    def __init__(self, tool: Path, folder: Path, *options: str, receive: int = 0, send: int = 0) -> None:
-        self.consumers = free_port(socket.SOCK_STREAM)
-        self.sending = send or free_port(socket.SOCK_DGRAM)
+    def __init__(self, tool: Path, folder: Path, *options: str, receive: int = 0, before: "Origin | None" = None) -> None:
+        """At the ports of the one before it, if there is one."""
+        self.consumers = before.consumers if before else free_port(socket.SOCK_STREAM)
+        self.sending = before.sending if before else free_port(socket.SOCK_DGRAM)
         words = ["--aeron", "--clients", "8", "--consumers", str(self.consumers), *options]
         sends = ["--send-to", "127.0.0.0/8", "--send-on", f"127.0.0.1:{self.sending}"]
-        super().__init__(tool, folder, *words, *sends, receive=receive)
+        super().__init__(
+            tool, folder, *words, *sends, receive=before.receive if before else receive, control=before.control if before else 0
+        )
 
     def send(self, recording: int, position: int, length: int, port: int) -> str:
         """What a line `send` is answered."""
@@ -65,14 +71,12 @@ class Origin(Server):
 
     def await_state(self, number: int, state: str) -> list[str]:
         """Waits until a sending is in a state: its words."""
-        until = time.monotonic() + PATIENCE
-        while True:
+
+        def seen() -> list[str]:
             words = self.sends().get(number, [])
-            if words[2:3] == [state]:
-                return words
-            if time.monotonic() > until:
-                raise Fault(f"send {number} is not {state}: {words}; {self.errors()}")
-            time.sleep(0.05)
+            return words if words[2:3] == [state] else []
+
+        return await_that(f"send {number} {state}", seen, lambda: f"{self.sends()}; {self.errors()}", PATIENCE, 0.05)
 
 
 class Written:
@@ -138,11 +142,11 @@ def origin(tool: Path, *options: str) -> Iterator[tuple[Origin, Path]]:
 
 def await_data(subscriber: Subscriber, data: bytes, server: Origin) -> None:
     """Waits until a subscriber has all of a recording, and compares."""
-    until = time.monotonic() + PATIENCE
-    while sum(map(len, subscriber.taken)) < len(data):
-        if time.monotonic() > until:
-            raise Fault(f"{sum(map(len, subscriber.taken))} of {len(data)} bytes came; {server.ask('sends')}; {server.errors()}")
-        time.sleep(0.02)
+
+    def came() -> int:
+        return sum(map(len, subscriber.taken))
+
+    await_that(f"{len(data)} bytes", lambda: came() >= len(data), lambda: f"{came()}; {server.ask('sends')}; {server.errors()}", PATIENCE, 0.02)
     if subscriber.data() != data:
         raise Fault("what a subscriber has is not what was recorded")
 
@@ -223,11 +227,8 @@ def words(tool: Path, seed: int) -> None:
 
 
 def await_end(subscriber: Subscriber) -> None:
-    until = time.monotonic() + 5
-    while not subscriber.has_ended:
-        if time.monotonic() > until:
-            raise Fault("no end of the stream was told")
-        time.sleep(0.02)
+    """Waits until a subscriber was told that the stream ends."""
+    await_that("the end-of-stream flag", lambda: subscriber.has_ended, seconds=5, pause=0.02)
 
 
 def bounded(server: Origin, written: Written, chance: random.Random) -> None:
@@ -482,15 +483,7 @@ def mirrored(first: Origin, second: Origin, relay: Relay) -> subprocess.Popen[by
 def restarted(tool: Path, server: Origin, folder: Path, *options: str) -> Origin:
     """A server in the place of one that is killed, at the same ports."""
     server.kill(signal.SIGKILL)
-    after = object.__new__(Origin)
-    after.control, after.receive, after.consumers, after.sending = server.control, server.receive, server.consumers, server.sending
-    after.told = tempfile.TemporaryFile("w+")
-    words = ["--aeron", "--clients", "8", "--consumers", str(after.consumers), *options]
-    words += ["--send-to", "127.0.0.0/8", "--send-on", f"127.0.0.1:{after.sending}"]
-    ports = ["--control", str(after.control), "--receive", str(after.receive)]
-    after.process = subprocess.Popen([tool, "serve", folder, *ports, *words], stderr=after.told)
-    after.client().close()
-    return after
+    return Origin(tool, folder, *options, before=server)
 
 
 def resumed(client: Client, written: Written) -> None:
@@ -505,14 +498,15 @@ def resumed(client: Client, written: Written) -> None:
 
 def await_copy(second: Origin, written: Written, first: Origin) -> None:
     """Waits until the copy has all."""
-    until = time.monotonic() + PATIENCE
-    while True:
+
+    def has_all() -> bool:
         words = second.ask("positions 0")[0].split()
-        if words[0] == "positions" and int(words[2]) == written.position:
-            return
-        if time.monotonic() > until:
-            raise Fault(f"the copy is at {words}, and not at {written.position}; {first.ask('sends')}; {first.errors()}; {second.errors()}")
-        time.sleep(0.05)
+        return words[0] == "positions" and int(words[2]) == written.position
+
+    def says() -> str:
+        return f"{second.ask('positions 0')}; {first.ask('sends')}; {first.errors()}; {second.errors()}"
+
+    await_that(f"a copy up to {written.position}", has_all, says, PATIENCE, 0.05)
 
 
 def compare_copy(second: Origin, written: Written) -> None:
@@ -560,19 +554,12 @@ def dissector(tool: Path, seed: int) -> None:
         server.await_state(number, "done")
         subscriber.end()
         capture = folder / "sent.pcap"
-        capture.write_bytes(capture_of(kept, server.sending, port))
-        rows = dissected(capture, port, ["aeron.data.frame_length"])
-        expect("datagrams that the dissector reads", len(rows), len(kept))
-        expect("what it calls malformed", malformed(capture, port), "")
+        write_capture(capture, kept)
+        expect("datagrams that the dissector reads", len(dissected(capture, ["aeron.data.frame_length"])), len(kept))
+        expect("what it calls malformed", malformed(capture), [])
         print(f"{len(kept)} datagrams, as tshark reads them", flush=True)
         client.close()
         server.quit()
-
-
-def malformed(capture: Path, port: int) -> str:
-    """The datagrams of a capture that Wireshark calls malformed."""
-    words = ["tshark", "-r", capture, "-d", f"udp.port=={port},aeron", "-Y", "_ws.malformed"]
-    return subprocess.run(words, capture_output=True, text=True, check=True).stdout
 
 
 class Keeper(Subscriber):
@@ -586,16 +573,6 @@ class Keeper(Subscriber):
         if datagram:
             self.kept.append(datagram)
         return super().came(datagram)
-
-
-def capture_of(datagrams: list[bytes], source: int, to: int) -> bytes:
-    """A capture of datagrams, as raw IPv4."""
-    out = struct.pack("<IHHiIII", 0xA1B2C3D4, 2, 4, 0, 0, 65_535, 101)
-    for datagram in datagrams:
-        udp = struct.pack(">HHHH", source, to, 8 + len(datagram), 0) + datagram
-        ip = struct.pack(">BBHHHBBH4s4s", 0x45, 0, 20 + len(udp), 0, 0, 64, 17, 0, b"\x7f\0\0\1", b"\x7f\0\0\1") + udp
-        out += struct.pack("<IIII", 0, 0, len(ip), len(ip)) + ip
-    return out
 
 
 def main() -> int:

@@ -26,9 +26,10 @@ from pathlib import Path
 from typing import TypeVar
 
 from readers.catalogue import SETTLE, read_banks
+from lib.captures import dissected, told_of_frame, write_capture
 from lib.tool import (
-    INITIAL_TERM, ROOT, SESSION_ID, STREAM_ID, Fault, Stream, conclude, dissected, expect, file_system, free_port, program, replayed, room,
-    run, run_trials, stop_positions, told_of_frame, trial_words,
+    INITIAL_TERM, ROOT, SESSION_ID, STREAM_ID, Fault, Stream, conclude, expect, file_system, free_port, program, replayed, room, run,
+    run_trials, stop_positions, trial_words,
 )
 
 sys.path.insert(0, str(ROOT / "examples"))
@@ -44,11 +45,18 @@ PATIENCE = 60  # seconds that a trial waits for what has to come
 AnyServer = TypeVar("AnyServer", bound="Server")
 
 
+def socket_words(port: int) -> list[str]:
+    """What the system says of the datagram socket of a port; nothing if there is none."""
+    lines = map(str.split, Path("/proc/net/udp").read_text().splitlines()[1:])
+    return next((words for words in lines if int(words[1].split(":")[1], 16) == port), [])
+
+
 class Server:
     """A `serve` over a folder."""
 
-    def __init__(self, tool: Path, folder: Path, *options: str, receive: int = 0) -> None:
-        self.control, self.receive = free_port(socket.SOCK_STREAM), receive or free_port(socket.SOCK_DGRAM)
+    def __init__(self, tool: Path, folder: Path, *options: str, receive: int = 0, control: int = 0) -> None:
+        self.control = control or free_port(socket.SOCK_STREAM)
+        self.receive = receive or free_port(socket.SOCK_DGRAM)
         self.told = tempfile.TemporaryFile("w+")
         ports = ["--control", str(self.control), "--receive", str(self.receive)]
         self.process = subprocess.Popen([tool, "serve", folder, *ports, *options], stderr=self.told)
@@ -97,8 +105,7 @@ class Server:
 
     def socket_words(self) -> list[str]:
         """What the system says of its datagram socket; nothing if there is none."""
-        lines = map(str.split, Path("/proc/net/udp").read_text().splitlines()[1:])
-        return next((words for words in lines if int(words[1].split(":")[1], 16) == self.receive), [])
+        return socket_words(self.receive)
 
     def dropped(self) -> int:
         """How many datagrams the system has dropped at its port."""
@@ -402,7 +409,7 @@ def read_by_wireshark(tool: Path, chance: random.Random) -> None:
         frames = [bytes.fromhex(line.split()[2]) for line in replayed(tool, archive, 0, 0, 10_000)]
         capture = archive.parent / "capture.pcap"
         write_capture(capture, sender.naks + frames)
-        told = dissected(capture, 40_123)
+        told = dissected(capture)
         right = [told_of_nak(nak) for nak in sender.naks] + [told_of_frame(frame) for frame in frames]
         differences = sum(one != other for one, other in zip(told, right, strict=True))
         expect("differences between what was sent and what tshark reads", differences, 0)
@@ -412,16 +419,6 @@ def read_by_wireshark(tool: Path, chance: random.Random) -> None:
 def told_of_nak(nak: bytes) -> list[int]:
     length, _, _, _, session_id, stream_id, term_id, offset, asked = struct.unpack("<iBBHiiiii", nak)
     return [session_id, stream_id, term_id, offset, asked, length]
-
-
-def write_capture(path: Path, datagrams: list[bytes]) -> None:
-    """A capture file of datagrams between two ports of 127.0.0.1."""
-    with open(path, "wb") as out:
-        out.write(struct.pack("<IHHiIII", 0xA1B2C3D4, 2, 4, 0, 0, 262_144, 101))
-        for datagram in datagrams:
-            udp = struct.pack(">HHHH", 40123, 40123, 8 + len(datagram), 0) + datagram
-            ip = struct.pack(">BBHHHBBH4s4s", 0x45, 0, 20 + len(udp), 0, 0, 64, 17, 0, b"\x7f\0\0\1", b"\x7f\0\0\1") + udp
-            out.write(struct.pack("<IIII", 0, 0, len(ip), len(ip)) + ip)
 
 
 class Killed:

@@ -29,7 +29,7 @@ from pathlib import Path
 from flow_control import FaultySender, Publication
 from lib.mounts import Skipped, mounted
 from lib.tool import INITIAL_TERM, MTU, ROOT, STREAM_ID, Fault, conclude, expect, free_port, program, room, run, run_trials, trial_words
-from serving import PATIENCE, Client, Faults, Server
+from serving import PATIENCE, Faults, Server
 
 RETENTION = ROOT / "examples/operations/retention.py"
 TERM, TERMS = 65_536, 6  # bytes of a segment; how many of them are recorded at least

@@ -1,16 +1,14 @@
 """node_exporter and Prometheus, as Debian has them, over files of metrics."""
 import json
 import subprocess
-import time
 import urllib.error
 import urllib.parse
 import urllib.request
-from collections.abc import Callable, Iterator
+from collections.abc import Iterator
 from contextlib import contextmanager
 from pathlib import Path
-from typing import TypeVar
 
-from lib.tool import Fault
+from lib.tool import Fault, await_that
 
 PATIENCE = 60  # seconds that a trial waits for what has to come
 EXPORTER, PROMETHEUS = "prometheus-node-exporter", "prometheus"
@@ -19,19 +17,6 @@ global: {{scrape_interval: 1s, evaluation_interval: 1s}}
 rule_files: ['{rules}']
 scrape_configs: [{{job_name: node, static_configs: [{{targets: ['127.0.0.1:{port}']}}]}}]
 """
-
-Found = TypeVar("Found")
-
-
-def await_that(what: str, seen: Callable[[], Found], says: Callable[[], object]) -> Found:
-    """Waits until something is seen. If it does not come, the fault has what there was instead."""
-    until = time.monotonic() + PATIENCE
-    while not (found := seen()):
-        if time.monotonic() > until:
-            raise Fault(f"{what}: not within {PATIENCE} seconds; {says()}")
-        time.sleep(0.2)
-    return found
-
 
 @contextmanager
 def running(words: list[str | Path], log: Path, user: int, group: int) -> Iterator[subprocess.Popen[bytes]]:

@@ -14,6 +14,8 @@ CALM = re.compile(
     rf"|image \d+ has left: {COUNTS}"
     r"|image \d+ resumes stream -?\d+, session id -?\d+ at \d+, where recording \d+ stands: \d+ bytes before its setup frame are asked for"
     r"|image \d+ has what was missing: \d+ bytes up to \d+, after \d+ milliseconds"
+    r"|image \d+ waits for \d+ bytes at \d+ of stream -?\d+, session id -?\d+: for 5 seconds, \d+ NAKs"
+    r"|image \d+ has the bytes at \d+, after \d+ seconds"
     r"|image \d+ takes no frames from [0-9.:]+: its sender is [0-9.:]+"
     r"|image \d+ has another sender: [0-9.:]+ in place of [0-9.:]+"
     r"|image \d+ yields its place to stream -?\d+, session id -?\d+"

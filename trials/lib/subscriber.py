@@ -5,15 +5,12 @@ import struct
 import threading
 import time
 
+from lib.tool import aligned
+
 DATA, PAD, NAK, STATUS, SETUP = 1, 0, 2, 3, 5  # types of frames
 HEADER_LENGTH, SETUP_LENGTH = 32, 40
 END_OF_STREAM = 0x20
 STATUS_PAUSE, NAK_PAUSE = 0.2, 0.02  # seconds from one to the next
-
-
-def aligned(length: int) -> int:
-    """A length, rounded up to a multiple of 32."""
-    return -(-length // 32) * 32
 
 
 class Subscriber:

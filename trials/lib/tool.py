@@ -15,7 +15,7 @@ from collections.abc import Callable, Iterable, Iterator, Sequence
 from contextlib import contextmanager, suppress
 from dataclasses import dataclass
 from pathlib import Path
-from typing import NoReturn, Protocol
+from typing import NoReturn, Protocol, TypeVar
 
 from lib.mounts import Skipped
 
@@ -43,6 +43,9 @@ def hides(bank: str, gate: int | str) -> str:
 
 
 HIDES = re.compile(hides("catalogue-[ab][.]bank", "[0-9]+"))
+
+
+Found = TypeVar("Found")
 
 
 class Fault(Exception):
@@ -118,6 +121,19 @@ def expect(what: str, told: object, right: object) -> None:
     """Asks that an answer is the right one."""
     if told != right:
         raise Fault(f"{what}: {str(told)[:200]}, and not {str(right)[:200]}")
+
+
+def await_that(
+    what: str, seen: Callable[[], Found], says: Callable[[], object] = str, seconds: float = 60, pause: float = 0.2
+) -> Found:
+    """Waits until something is seen, for so many seconds at most; looks again after a pause, also in seconds. If it does not come,
+    the fault has what there was instead."""
+    until = time.monotonic() + seconds
+    while not (found := seen()):
+        if time.monotonic() > until:
+            raise Fault(f"{what}: not within {seconds} seconds; {says()}")
+        time.sleep(pause)
+    return found
 
 
 def file_system(folder: str | Path) -> str:
@@ -333,33 +349,3 @@ def go_round(tool: Path, folder: Path, history: int, work: Rounds) -> None:
         work.end()
     except Fault as fault:
         raise Fault(f"behind {work.so_far()}: {fault}") from fault
-
-
-PARTS = "session_id", "stream_id", "term_id", "term_offset"
-NAKS_AND_FRAMES = [
-    *(f"aeron.nak.{part}" for part in (*PARTS, "length", "frame_length")),
-    *(f"aeron.{kind}.{part}" for kind in ("data", "pad") for part in (*PARTS, "frame_length")),
-]
-
-
-def dissected(capture: Path, port: int, fields: Sequence[str] = NAKS_AND_FRAMES) -> list[list[int]]:
-    """The numbers that Wireshark's Aeron dissector has in these fields of each frame of a capture file to a port. Without fields
-    they are those of NAK, data and pad frames."""
-    words = ["tshark", "-r", capture, "-d", f"udp.port=={port},aeron", "-T", "fields", "-E", "separator=,"]
-    told = subprocess.run([*words, *(word for field in fields for word in ("-e", field))], capture_output=True, text=True, check=True)
-    return [read_numbers(line) for line in told.stdout.splitlines()]
-
-
-def read_numbers(line: str) -> list[int]:
-    """The numbers of a line of tshark; ids are told in hexadecimal there."""
-    found = []
-    for word in line.split(","):
-        if word:
-            number = int(word, 0)
-            found.append(number - 2**32 if number >= 2**31 else number)
-    return found
-
-
-def told_of_frame(frame: bytes) -> list[int]:
-    length, _, _, _, offset, session_id, stream_id, term_id = struct.unpack_from("<iBBHiiii", frame)
-    return [session_id, stream_id, term_id, offset, length]

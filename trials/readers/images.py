@@ -43,9 +43,10 @@ class Image:
         return position_of(frame, self.initial_term, self.term_length) if is_ours else None
 
     def reach(self, frames: Iterable[Frame]) -> int:
-        """Where the last of a datagram's messages and pads ends."""
-        places = [(position_of(frame, self.initial_term, self.term_length), frame.length) for frame in frames if not is_heartbeat(frame)]
-        return max((place + aligned(length) for place, length in places if place is not None), default=0)
+        """Where the last of a datagram's messages and pads ends; a pad counts by its header."""
+        counted = [(frame, 32 if frame.kind == PAD else aligned(frame.length)) for frame in frames if not is_heartbeat(frame)]
+        places = [(position_of(frame, self.initial_term, self.term_length), length) for frame, length in counted]
+        return max((place + length for place, length in places if place is not None), default=0)
 
     def joins(self, frame: Frame) -> bool:
         """Whether a frame joins."""
