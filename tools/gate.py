@@ -8,7 +8,8 @@ With --kept over what earlier runs on this machine passed: so a gate can be meas
 Where `rt ci` keeps what it passed (rattle-kit-13f) that is `rt ci --anew [NAME..]`; where it proves from nothing each time
 (rattle-kit-13b) it takes no crate's name. Broken off by Ctrl-C or SIGTERM, it ends the run, and tells what that had spent.
 The whole has to stay under 126 units, so that four slow cores run it in 180 minutes. The processors should be idle: minutes are
-by the clock. Processor seconds are sampled twice a second from /proc, so up to half a second of each process is missed.
+by the clock. Processor seconds are sampled twice a second from /proc, so up to half a second of each process is missed. A check's
+workers are counted with it. What rt says is printed as it comes, behind the minute.
 """
 import os
 import re
@@ -83,12 +84,17 @@ class Samples:
                     found[int(entry)] = fields, Process(words, os.readlink(f"/proc/{entry}/cwd"))
             except (OSError, ValueError):
                 continue
+        workers = {number: int(fields[1]) for number, (fields, _) in found.items() if int(fields[1]) in found}
         for number, (fields, process) in found.items():
+            if number in workers:
+                continue
             above = number
             while above in parents and above != top:
                 above = parents[above]
             if above == top:
-                self.note((number, int(fields[19])), process, (int(fields[11]) + int(fields[12])) / TICKS)
+                alive = [found[worker][0] for worker, of in workers.items() if of == number]
+                ticks = [int(tick) for tick in fields[11:15]] + [int(tick) for it in alive for tick in it[11:13]]
+                self.note((number, int(fields[19])), process, sum(ticks) / TICKS)
 
     def note(self, name: tuple[int, int], process: Process, seconds: float) -> None:
         if process.number == BEGIN and self.begun.setdefault(process.crate, process.folder) != process.folder:
@@ -203,16 +209,20 @@ class Run:
         self.ran.wait()
         self.watcher.join()
 
-    def told(self, kept: re.Pattern) -> tuple[list[str], bool]:
-        """The lines that matter of what rt says, and whether the run was broken off."""
-        said: list[str] = []
+    def is_broken_off(self, kept: re.Pattern) -> bool:
+        """Prints the lines that matter of what rt says, until it has ended. Whether the run was broken off."""
         try:
-            said += (line for line in self.lines() if kept.search(line))
+            self.say(kept)
         except KeyboardInterrupt:
             self.ran.terminate()
-            said += (line for line in self.lines() if kept.search(line))
-            return said, True
-        return said, False
+            self.say(kept)
+            return True
+        return False
+
+    def say(self, kept: re.Pattern) -> None:
+        for line in self.lines():
+            if kept.search(line):
+                print(f"{(time.time() - self.begun) / 60:5.1f} {line}", end="", flush=True)
 
 
 @contextmanager
@@ -246,12 +256,11 @@ def main() -> int:
     signal.signal(signal.SIGTERM, signal.default_int_handler)
     with unit() as unit_seconds:
         run = Run(ROOT, names, not is_kept)
-        said, is_cut = run.told(kept)
+        is_cut = run.is_broken_off(kept)
         elapsed, of_unit = time.time() - run.begun, unit_seconds()
     units = sum(run.samples.seconds().values()) / of_unit
     of_what = f"the whole product has to stay under {MOST_UNITS}{'; broken off' if is_cut else ''}"
     print(f"{units:.1f} units of {of_unit:.0f} processor seconds; {of_what}")
-    print("".join(said), end="")
     report(run.samples, elapsed)
     return run.ran.returncode
 
