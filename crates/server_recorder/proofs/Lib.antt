@@ -1,3 +1,4 @@
+mod GroupingLemmas
 mod SeatLemmas
 mod SettlingLemmas
 pub mod StreamLemmas

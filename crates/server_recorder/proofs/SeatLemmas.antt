@@ -1,17 +1,19 @@
 -- Seats and their passes.
-use Rattle.std.proofs.Common.{◌≡◌, ◌≢◌, ◌+◌, ◌++◌, ◌<◌, ◌≤◌, ◌∙◌, ℕ, zero, suc, ℤ, pos, List, [], ◌∷◌, Option, Some, None, Result, Ok, Err, Bool, true, false, refl, sym, subst, ap, length, arith, eqb, eq-eqb}
+use Rattle.std.proofs.Common.{◌≤ℤ◌, replicate, rules, ◌≡◌, ◌≢◌, ◌+◌, ◌++◌, ◌<◌, ◌≤◌, ◌∙◌, ℕ, zero, suc, ℤ, pos, List, [], ◌∷◌, Option, Some, None, Result, Ok, Err, Bool, true, false, refl, sym, subst, ap, length, arith, eqb, eq-eqb}
 use Rattle.std.specs.Prelude.{◌||◌, MatchResult, int_le, slice_get, slice_set, if◌then◌else◌}
 use Rattle.std.specs.List.{zip}
 use mathlib.Core.List.{reverse}
 use mathlib.Core.Logic.{dite}
 use native.Mathlib.Decide.{ℕ_discrete}
 use Rattle.std.proofs.lemmas.List.{length-append, reverse-append}
+use Rattle.std.proofs.lemmas.List.Elements.{All-replicate}
 use Rattle.atomic_table.specs.Seated.{TableId}
-use Rattle.position_board.specs.Positions.{Published, last_position, new_writers, with_position}
+use Rattle.position_board.specs.Positions.{IsAccepted, MayRefuse, Published, last_position, new_writers, with_position}
 use Rattle.recorder_seats.specs.declared.bench.BenchSeat.{BenchSeat}
 use Rattle.recorder_seats.specs.Bench.{AreOfBoard, AreUnraised, BenchView, changed_seat, raised_at, raised_each, reseated_at}
 use Rattle.recorder_seats.specs.Seat.{raised_unless_below}
 use Rattle.frame_core.specs.declared.refusal.Refusal.{Refusal}
+use Rattle.frame_core.specs.declared.refusal.Refusal.TheVariants.{BadParameter, NoMemory}
 use Rattle.call_history.specs.Passes.{AllOfTable, HasEach, has_number, new_pass, new_passes}
 use Rattle.call_history.specs.Values.{PassView}
 use Rattle.archive_lock.specs.declared.history.Made.{Made}
@@ -61,6 +63,21 @@ new_are_new board starts writers is = subst (AreNewWriters board 0) (sym is) (ne
 
 pub count_new : (board : TableId) (slot : ℕ) (starts : List ℤ) (writers : List Published) → writers ≡ new_writers board slot starts → length writers ≡ length starts
 count_new board slot starts writers is = ap length is ∙ length_new board slot starts
+
+-- a board for the seats may be made
+accepted : IsAccepted (replicate 64 (pos 0)) 0
+accepted = record {
+  some_slot = search rules;
+  slots_fit = search rules;
+  readers_fit = search rules;
+  none_below_0 = All-replicate (λ start. pos 0 ≤ℤ start) 64 (pos 0) (search rules);
+}
+
+-- so it is refused for want of memory alone
+pub refuses_memory : (refusal : Refusal) → MayRefuse (replicate 64 (pos 0)) 0 refusal → refusal ≡ NoMemory
+refuses_memory BadParameter may = absurd (may accepted)
+refuses_memory NoMemory may = refl
+refuses_memory _ may = absurd may
 
 -- ---- passes
 

@@ -6,6 +6,11 @@ pub mod Seats
 pub mod Recording
 -- Archives that can record nothing any more.
 pub mod Stopping
+-- Which sessions settle together, and whose segment files are flushed before.
+pub mod Grouping
+pub mod Flushing
+-- When checkpoints are made.
+pub mod Checkpoints
 -- How many recordings the server begins.
 pub mod Tokens
 -- What is done for an image that waits to be recorded.

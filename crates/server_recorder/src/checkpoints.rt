@@ -1,7 +1,12 @@
 //! Checkpoints by the thread that records. docs/SERVING.md, "How long a history lasts".
 
+ghost use Rattle.std.specs.Prelude.{◌≡◌, ◌&&◌, Bool, IsTrue, true};
+ghost use Rattle.server_recorder.specs.Checkpoints.{LooksFirst, MakesCheckpoint, MayCheckpoint, Retries, is_due, is_long, is_worthwhile, wait_while};
+
+use crate::own_recordings::is_past;
 use crate::recording::Recording;
 use crate::seats::Seats;
+use crate::settling::sooner;
 use crate::stopping::note_standing;
 use archive_lock::{Naming, Standing};
 use archive_model::{BankVersion, Reply};
@@ -11,7 +16,7 @@ use frame_core::Refusal;
 use server_state::{Reporter, Shared, Stopwatch};
 use std::rt::Clock;
 use std::sync::Wait;
-use tool_core::CheckpointOutcome;
+use tool_core::{CheckpointOutcome, is_checkpoint_due};
 
 /// Milliseconds after which a checkpoint of a full history is tried again.
 const SECOND: u64 = 1_000;
@@ -22,7 +27,9 @@ pub(crate) fn keep_short<D: Disk, A: Naming, R: Wait, T: Reporter>(
     with: &Recording<'_, D, A, R, T>,
     seats: &mut Seats<A>,
     standing: &Standing,
-) {
+)
+    ensures { MayCheckpoint D.life A.opening (is_due standing.now) seats.old seats.new }
+{
     if is_begun(with.shared, standing) {
         make(with, seats, standing);
     } else {
@@ -36,10 +43,11 @@ pub fn begin_short<D: Disk, A: Naming, R: Wait, T: Reporter>(
     with: &Recording<'_, D, A, R, T>,
     seats: &mut Seats<A>,
     is_asked: bool,
-) {
+)
+    ensures { LooksFirst D.life A.opening (λ standing. is_asked && is_worthwhile standing) seats.old seats.new }
+{
     let standing = seats.standing(with.rt, with.archive);
-    let is_long = standing.counted > 0 || standing.version == BankVersion::One;
-    if is_asked && is_long && with.shared.checkpointing.begins_now() {
+    if is_asked && is_worthwhile(&standing) && with.shared.checkpointing.begins_now() {
         make(with, seats, &standing);
     } else {
         note_standing(with.shared, &standing);
@@ -51,18 +59,36 @@ fn make<D: Disk, A: Naming, R: Wait, T: Reporter>(
     with: &Recording<'_, D, A, R, T>,
     seats: &mut Seats<A>,
     before: &Standing,
-) {
+)
+    ensures { MakesCheckpoint D.life A.opening seats.old seats.new }
+{
     let (outcome, after) = seats.call(with.rt, with.alloc, with.archive, &Event::Checkpoint);
     note_checkpoint(with.shared, before, &outcome, &after);
 }
 
 /// Whether the caller is to make a checkpoint of an archive that stands so: one is due, and no write has failed. Then no other
 /// thread is to, until it is noted.
-pub fn is_begun<T: Reporter>(shared: &Shared<T>, standing: &Standing) -> bool {
-    !standing.is_broken
+pub fn is_begun<T: Reporter>(shared: &Shared<T>, standing: &Standing) -> bool
+    ensures { IsTrue result → is_due standing.now ≡ true }
+{
+    is_due(standing)
         && shared
             .checkpointing
             .begins(standing.counted, standing.active, standing.limit)
+}
+
+/// Whether a checkpoint of an archive that stands so is due, and no write of it has failed.
+fn is_due(standing: &Standing) -> bool
+    ensures { result ≡ is_due standing.now }
+{
+    !standing.is_broken && is_checkpoint_due(standing.counted, standing.active, standing.limit)
+}
+
+/// Whether an entry of an archive that stands so counts, or its bank is of version 1.
+fn is_worthwhile(standing: &Standing) -> bool
+    ensures { result ≡ is_worthwhile standing.now }
+{
+    standing.counted > 0 || standing.version == BankVersion::One
 }
 
 /// Notes how a checkpoint ended that was made where an archive stood so, and where it stands after it, if that is known.
@@ -82,9 +108,18 @@ pub fn note_checkpoint<T: Reporter>(
 }
 
 /// How long the thread that records may wait: for a second at most while a full history is to be made short.
-pub(crate) fn wait_at_most<T: Reporter>(shared: &Shared<T>, wait: Option<u64>) -> Option<u64> {
-    if shared.checkpointing.is_full() {
-        Some(wait.unwrap_or(SECOND).min(SECOND))
+pub(crate) fn wait_at_most<T: Reporter>(shared: &Shared<T>, wait: Option<u64>) -> Option<u64>
+    ensures { (is_full : Bool) × (result ≡ wait_while is_full wait) }
+{
+    wait_while(shared.checkpointing.is_full(), wait)
+}
+
+/// The same, by whether a full history is to be made short.
+fn wait_while(is_full: bool, wait: Option<u64>) -> Option<u64>
+    ensures { result ≡ wait_while is_full wait }
+{
+    if is_full {
+        sooner(wait, Some(SECOND))
     } else {
         wait
     }
@@ -96,23 +131,27 @@ pub(crate) fn retry_when_full<D: Disk, A: Naming, R: Wait + Clock, T: Reporter>(
     seats: &mut Seats<A>,
     watch: &Stopwatch,
     tried: &mut Option<u64>,
-) {
+)
+    ensures { Retries D.life A.opening tried.old tried.new seats.old seats.new }
+{
     let shared = with.shared;
-    if !shared.checkpointing.is_full() || !is_past(*tried, watch.read(with.rt)) {
+    if !shared.checkpointing.is_full() {
         return;
     }
-    *tried = watch.read(with.rt);
+    let now = watch.read(with.rt);
+    if !is_past(SECOND, *tried, now) {
+        return;
+    }
+    *tried = now;
     let standing = seats.standing(with.rt, with.archive);
-    let is_long = standing.counted > standing.active && !standing.is_broken;
-    if is_long && shared.checkpointing.begins_now() {
+    if is_long(&standing) && shared.checkpointing.begins_now() {
         make(with, seats, &standing);
     }
 }
 
-/// Whether a second has passed, or nobody knows how long it was.
-fn is_past(tried: Option<u64>, now: Option<u64>) -> bool {
-    match (tried, now) {
-        (Some(tried), Some(now)) => SECOND <= now.saturating_sub(tried),
-        _ => true,
-    }
+/// Whether a checkpoint makes the history of an archive shorter that stands so, and no write of it has failed.
+fn is_long(standing: &Standing) -> bool
+    ensures { result ≡ is_long standing.now }
+{
+    standing.counted > standing.active && !standing.is_broken
 }

@@ -2,6 +2,7 @@
 //! durable"; docs/STORAGE.md, "Folders".
 
 ghost use Rattle.std.specs.Prelude.{◌≡◌, ◌-◌, [], false, length};
+ghost use Rattle.server_recorder.specs.Flushing.{TakesLast, given_files};
 
 use disk_core::FileId;
 use std::alloc::Global;
@@ -67,7 +68,8 @@ struct Work {
 impl Work {
     /// Takes a file that waits, which is being flushed from now on.
     fn take(&mut self) -> Option<FileId>
-        ensures { self.new ≡ record self.old { files = self.new.files } }
+        ensures taken { TakesLast self.old.files.items result self.new.files.items }
+        ensures same { self.new ≡ record self.old { files = self.new.files } }
     {
         self.files.pop()
     }
@@ -81,7 +83,8 @@ impl Work {
 
     /// Gives files to those that flush, if any do. How many threads do.
     fn give(&mut self, files: Vec<FileId>) -> usize
-        ensures { result ≡ self.old.threads }
+        ensures threads { result ≡ self.old.threads }
+        ensures given { self.new ≡ given_files files self.old }
     {
         if self.threads > 0 {
             self.left = files.len();

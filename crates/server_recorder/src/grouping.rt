@@ -1,6 +1,10 @@
 //! Sessions that are due, which settle together, and whose segment files are flushed before. docs/SERVING.md, "When a frame is
 //! durable".
 
+ghost use Rattle.std.specs.Prelude.{◌≡◌, IfSome};
+ghost use Rattle.std.specs.List.{count_by};
+ghost use Rattle.server_recorder.specs.Grouping.{due_seats, seats_of, sessions_written, with_near};
+
 use crate::checkpoints::keep_short;
 use crate::flushing::Flushing;
 use crate::recording::{Recording, SYNCS, note_settled, note_time, settle_alone};
@@ -34,7 +38,7 @@ pub(crate) fn settle_due<D: Disk, A: Naming, R: Wait + Clock, T: Reporter>(
         return;
     }
     if due_count > 1 {
-        add_near(settling, &mut due);
+        due = with_near(settling, &due);
     }
     let mut is_flushed = false;
     if let Some(group) = seats_of(with.alloc, &due) {
@@ -63,7 +67,9 @@ fn settle_each<D: Disk, A: Naming, R: Wait + Clock, T: Reporter>(
 }
 
 /// Of each seat whether its session is due.
-fn due_seats(settling: &Settling, block_waits: bool, taken: &Taken) -> [bool; FED_SESSIONS] {
+fn due_seats(settling: &Settling, block_waits: bool, taken: &Taken) -> [bool; FED_SESSIONS]
+    ensures { result ≡ due_seats block_waits taken.now settling.now }
+{
     let mut due = [false; FED_SESSIONS];
     for seat in 0..FED_SESSIONS {
         let is_asked = taken.is_over || taken.asked[seat];
@@ -72,28 +78,34 @@ fn due_seats(settling: &Settling, block_waits: bool, taken: &Taken) -> [bool; FE
     due
 }
 
-/// Adds the sessions that are near to be due.
-fn add_near(settling: &Settling, due: &mut [bool; FED_SESSIONS]) {
+/// Of each seat whether its session is one of those that are due, or is near to be due.
+fn with_near(settling: &Settling, due: &[bool; FED_SESSIONS]) -> [bool; FED_SESSIONS]
+    ensures { result ≡ with_near settling.now due.now }
+{
+    let mut near = [false; FED_SESSIONS];
     for seat in 0..FED_SESSIONS {
-        if settling.is_half_due(seat) {
-            due[seat] = true;
-        }
+        near[seat] = due[seat] || settling.is_half_due(seat);
     }
+    near
 }
 
 /// How many seats there are.
-fn count(seats: &[bool; FED_SESSIONS]) -> usize {
+fn count(seats: &[bool; FED_SESSIONS]) -> usize
+    ensures { result ≡ count_by (λ is. is) seats.now }
+{
     let mut count: usize = 0;
     for seat in 0..FED_SESSIONS {
         if seats[seat] {
-            count = count.saturating_add(1);
+            count += 1;
         }
     }
     count
 }
 
 /// The numbers of seats. None if there is no memory for them.
-fn seats_of(alloc: Global, seats: &[bool; FED_SESSIONS]) -> Option<Vec<Seat>> {
+fn seats_of(alloc: Global, seats: &[bool; FED_SESSIONS]) -> Option<Vec<Seat>>
+    ensures { IfSome result (λ numbers. numbers.items ≡ seats_of seats.now) }
+{
     let mut numbers = Vec::with_capacity(alloc, FED_SESSIONS).ok()?;
     for seat in 0..FED_SESSIONS {
         if seats[seat] {
@@ -205,7 +217,9 @@ fn flush<D: Disk, A: Naming, R: Wait + Clock, T: Reporter>(
 }
 
 /// The numbers of the sessions at some seats, as far as they wrote something. None if there is no memory for them.
-fn sessions_of(alloc: Global, settling: &Settling, seats: &[Seat]) -> Option<Vec<i64>> {
+fn sessions_of(alloc: Global, settling: &Settling, seats: &[Seat]) -> Option<Vec<i64>>
+    ensures { IfSome result (λ sessions. sessions.items ≡ sessions_written settling.now seats.now) }
+{
     let mut sessions = Vec::with_capacity(alloc, FED_SESSIONS).ok()?;
     for seat in seats {
         if let Some(written) = settling.written(*seat) {

@@ -257,7 +257,7 @@ impl OwnRecordings {
 }
 
 /// Whether so many milliseconds have passed since a time. So it is if that is not known.
-fn is_past(millis: u64, last: Option<u64>, now: Option<u64>) -> bool
+pub(crate) fn is_past(millis: u64, last: Option<u64>, now: Option<u64>) -> bool
     ensures { result ≡ is_past millis last now }
 {
     match (last, now) {

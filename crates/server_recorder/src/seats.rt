@@ -62,9 +62,11 @@ impl Model for SeatRoom {
 }
 
 impl SeatRoom {
-    /// Room for the sessions of the numbers 0 to 63, with slots that start at 0, and no reader.
+    /// Room for the sessions of the numbers 0 to 63, with slots that start at 0, and no reader. `NoMemory`.
     #[tactic(auto, using(crate::proofs::SeatLemmas::count_new))]
-    pub fn new(alloc: Global) -> Result<SeatRoom, Refusal> {
+    pub fn new(alloc: Global) -> Result<SeatRoom, Refusal>
+        ensures { IfErr result (λ refusal. refusal ≡ NoMemory) }
+    {
         let starts = [0; FED_SESSIONS];
         let (board, writers, _) = Board::new(alloc, &starts, 0)?;
         let room = Vec::with_capacity(alloc, FED_SESSIONS)?;
@@ -176,8 +178,9 @@ impl<A: Naming> Seats<A> {
         archive: &SharedArchive<D, A>,
         sessions: &[i64],
     ) -> Result<Vec<FileId>, Refusal>
-        ensures { SeesAt A.opening (λ d. IfOk result (λ files. files.items ≡ segments_each d sessions.now))
+        ensures sees { SeesAt A.opening (λ d. IfOk result (λ files. files.items ≡ segments_each d sessions.now))
             self.old self.new }
+        ensures refused { IfErr result (λ refusal. refusal ≡ NoMemory) }
     {
         self.bench.unsettled_segments(rt, alloc, archive, sessions)
     }

@@ -268,7 +268,7 @@ fn due_in(every: u64, time: Option<u64>, state: &SessionState) -> Option<u64>
 }
 
 /// The lesser of two numbers; the other one if one is missing.
-fn sooner(first: Option<u64>, second: Option<u64>) -> Option<u64>
+pub(crate) fn sooner(first: Option<u64>, second: Option<u64>) -> Option<u64>
     ensures { result ≡ sooner first second }
 {
     match (first, second) {
