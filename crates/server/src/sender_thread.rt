@@ -14,18 +14,16 @@ use std::sync::Wait;
 use std::time::Duration;
 
 /// Datagrams of one sending that go out before another one's.
-const AT_ONCE: u64 = 16;
+const AT_ONCE: u64 = 32;
 /// Datagrams that are heard before what is due is sent: a receiver that was heard is not gone.
 const HEARD_AT_ONCE: u64 = 1_024;
 /// Bytes of a datagram that are looked at: those of a status message or a NAK, and more.
 const LONGEST: usize = 2_048;
-/// Status messages and NAKs that wait at most, for sendings whose recordings are looked at.
+/// Status messages and NAKs that wait at most for their sendings.
 const MOST_WAITING: usize = 1_024;
-/// Milliseconds that the thread sleeps at once at most while a recording is looked at.
-const BLINK: u64 = 1;
-/// The same if there is a sending.
+/// Milliseconds that the thread sleeps at once at most if there is a sending.
 const NAP: u64 = 10;
-/// And if there is none.
+/// The same if there is none.
 const REST: u64 = 100;
 /// Milliseconds after which it is reported that no receiver answers.
 const SILENCE: u64 = 5_000;
@@ -72,19 +70,20 @@ pub(crate) fn send_all<R: Wait + Clock, T: Reporter>(rt: &R, with: &Connections<
         datagrams: 0,
         bytes: 0,
     };
+    let mut is_quiet = false;
     for _ in rt.forever() {
         if with.has_ended() {
             return;
         }
-        with.sendings.set_asleep(true);
         let has_heard = hear_waiting(rt, with, socket, &mut buffer, &mut inbox);
         let (has_sent, nap) = send_round(rt, with, &mut end, &mut inbox);
         note_counts(with, &mut end);
-        if has_heard || has_sent {
-            with.sendings.set_asleep(false);
-        } else {
+        let is_idle = !has_heard && !has_sent;
+        if is_idle && is_quiet {
             sleep(rt, with, socket, &mut buffer, &mut inbox, nap);
         }
+        is_quiet = is_idle && !is_quiet;
+        with.sendings.set_asleep(is_quiet);
     }
 }
 
@@ -113,7 +112,6 @@ fn sleep<R: Wait + Clock, T: Reporter>(
         return;
     }
     let _ = hear(rt, with, socket, buffer, inbox);
-    with.sendings.set_asleep(false);
 }
 
 /// Hears the datagrams that wait, but no more than 1,024. Whether there was one.
@@ -221,7 +219,7 @@ fn forget_all(inbox: &mut Vec<Heard>, place: usize) {
     inbox.retain(|heard| heard.place != place);
 }
 
-/// Sends what is due of each sending, but no more than 16 datagrams of each. Whether there was any, and for how many milliseconds
+/// Sends what is due of each sending, but no more than 32 datagrams of each. Whether there was any, and for how many milliseconds
 /// the thread may sleep then.
 fn send_round<R: Wait + Clock, T: Reporter>(
     rt: &R,
@@ -233,13 +231,8 @@ fn send_round<R: Wait + Clock, T: Reporter>(
     let mut nap = REST;
     for (index, place) in with.sendings.places().iter().enumerate() {
         if place.is_taken() {
-            match send_at(rt, with, index, place, end, inbox) {
-                Some(sent) => {
-                    has_sent = sent || has_sent;
-                    nap = nap.min(NAP);
-                }
-                None => nap = nap.min(BLINK),
-            }
+            has_sent = send_at(rt, with, index, place, end, inbox) || has_sent;
+            nap = NAP;
         } else if !inbox.is_empty() {
             forget_all(inbox, index);
         }
@@ -247,7 +240,7 @@ fn send_round<R: Wait + Clock, T: Reporter>(
     (has_sent, nap)
 }
 
-/// Sends what is due at a place. Whether there was something; None if its recording is looked at.
+/// Sends what is due at a place. Whether there was something.
 fn send_at<R: Wait + Clock, T: Reporter>(
     rt: &R,
     with: &Connections<T>,
@@ -255,34 +248,45 @@ fn send_at<R: Wait + Clock, T: Reporter>(
     place: &SendPlace,
     end: &mut UdpSendEnd<'_>,
     inbox: &mut Vec<Heard>,
-) -> Option<bool> {
+) -> bool {
     let now = with.sendings.now(rt);
-    let mut sending = place.lock_to_send(rt)?;
+    let mut sending = place.lock(rt);
     let Some(sending) = &mut *sending else {
-        return Some(false);
+        return false;
     };
     hear_all(inbox, index, sending);
     if sending.over.is_some() {
-        return Some(false);
+        return false;
+    }
+    if sending.publishing.wants_frames() {
+        lay_given(rt, place, sending);
     }
     let sent = send_due(now, sending, end);
     if let Ok(Stepped::Over(over)) = sent {
         sending.over = Some(over);
-    }
-    if sending.over.is_some() || sending.publishing.wants_frames() {
-        place.notify();
+        place.end(rt);
     }
     note_progress(rt, with, now, sending);
-    Some(matches!(sent, Ok(Stepped::Sent)))
+    matches!(sent, Ok(Stepped::Sent))
 }
 
-/// Sends what is due of a sending, but no more than 16 datagrams.
+/// Lays the frames that the thread that reads has given. Those for which there is no memory are laid later.
+fn lay_given<R: Wait>(rt: &R, place: &SendPlace, sending: &mut ActiveSending) {
+    if sending.read.is_empty() {
+        if let Some(last) = place.take_given(rt, &mut sending.read) {
+            sending.publishing.note_last(last);
+        }
+    }
+    let _ = sending.publishing.lay_all(&mut sending.read);
+}
+
+/// Sends what is due of a sending, but no more than 32 datagrams.
 fn send_due<E: SendEnd>(
     now: u64,
     sending: &mut ActiveSending,
     end: &mut E,
 ) -> Result<Stepped, AllocError>
-    ensures { SendsSome E.puts sending.old.to 16 now sending.old.publishing end.old result sending.new.publishing end.new }
+    ensures { SendsSome E.puts sending.old.to 32 now sending.old.publishing end.old result sending.new.publishing end.new }
 {
     send_some(now, AT_ONCE, &mut sending.publishing, end, &sending.to)
 }

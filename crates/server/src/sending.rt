@@ -1,11 +1,11 @@
 //! The threads that read what is sent as publications. docs/SERVING.md, "Send a recording".
 
-ghost use Rattle.std.specs.Prelude.{◌≡◌, ◌≤ℤ◌, OnOk, pos};
+ghost use Rattle.std.specs.Prelude.{◌≡◌, ◌≤ℤ◌, [], OnErr, OnOk, pos};
 ghost use Rattle.disk_core.specs.DiskImage.{reads};
 ghost use Rattle.recording_reads.specs.Handing.{HandsShown};
 ghost use Rattle.recording_reads.specs.Settled.{seen_to};
 ghost use Rattle.server.specs.Clients.{IsBack};
-ghost use Rattle.server_sender.specs.Publishing.{LaysTaken};
+ghost use Rattle.server_sender.specs.Publishing.{KeepsRead};
 
 use crate::followed_stream::FollowedStream;
 use crate::followers::Asked;
@@ -17,7 +17,7 @@ use call_history::Pass;
 use disk_core::Disk;
 use frame_core::{Refusal, replay_bound};
 use server_sender::{
-    Endpoint, LastFrames, Publishing, SendOver, SendProgress, SendRequest, SendState,
+    Endpoint, LastFrames, Publishing, ReadFrames, SendOver, SendProgress, SendRequest, SendState,
 };
 use server_state::{Happening, ReplayReader, Reporter, SendNews};
 use settled_replays::SettledReplayer;
@@ -26,7 +26,7 @@ use std::sync::Wait;
 use std::thread;
 use std::time::Duration;
 
-/// Milliseconds that a thread waits for frames, or for room, at once at most.
+/// Milliseconds that a thread waits for frames, or until those that it read are taken, at once at most.
 const LOOK: u64 = 80;
 /// Waits of 80 milliseconds after which frames that could not be read are asked for again.
 const WAITS: u64 = 12;
@@ -36,16 +36,12 @@ const READ_AT_ONCE: i64 = 65_536;
 /// What came of reading on.
 #[derive(Clone, Copy, Debug, PartialEq, Eq)]
 enum ReadOn {
-    /// Frames were read.
-    Read,
+    /// Frames were read, or none come any more: the thread that sends has it.
+    Given,
     /// None is there at the moment.
     Nothing,
-    /// There is no room for frames, or none comes any more.
-    Full,
     /// They could not be read, and may be asked for again later.
     Later,
-    /// The sending is over.
-    Over,
 }
 
 /// Sends a recording to an endpoint, until all of it is consumed, its receiver is gone, it is stopped, or the server ends: the pass.
@@ -151,6 +147,7 @@ fn begin<D: Disk, A: Naming, R: Wait + Clock, T: Reporter, E: Disk + Drop>(
                 mtu: stream.geometry.mtu,
                 begun_at: now,
                 publishing,
+                read: ReadFrames::new(*alloc),
                 noted,
                 is_waiting_reported: false,
                 over: None,
@@ -160,8 +157,8 @@ fn begin<D: Disk, A: Naming, R: Wait + Clock, T: Reporter, E: Disk + Drop>(
     with.sendings.wake();
 }
 
-/// Reads the frames of a sending as there is room for them, until it is over, a client asks to close its replay, or the server
-/// ends.
+/// Reads the frames of a sending, those that come next before they are wanted, until it is over, a client asks to close its replay,
+/// or the server ends.
 fn read_all<D: Disk, A: Naming, R: Wait + Clock, T: Reporter, E: Disk + Drop>(
     following: &Following<'_, D, A, R, T>,
     stream: &FollowedStream,
@@ -175,20 +172,30 @@ fn read_all<D: Disk, A: Naming, R: Wait + Clock, T: Reporter, E: Disk + Drop>(
     let Some(place) = with.sendings.place(following.place) else {
         return;
     };
+    let mut read = ReadFrames::new(following.alloc);
     for _ in rt.forever() {
-        if with.has_ended() || with.followers.is_to_end(following.place) {
+        if is_to_end(following, place) {
             return;
         }
-        let settled = with.shared.settles.count(*rt);
-        match read_on(following, stream, bound, place, replayer) {
-            ReadOn::Read => with.sendings.wake(),
-            ReadOn::Nothing => with.shared.settles.wait(*rt, settled, LOOK),
-            ReadOn::Full => place.wait(*rt, LOOK),
-            ReadOn::Later => rest(following, place),
-            ReadOn::Over => return,
+        if place.wait(*rt, LOOK) {
+            let settled = with.shared.settles.count(*rt);
+            match read_on(following, stream, bound, place, replayer, &mut read) {
+                ReadOn::Given => with.sendings.wake(),
+                ReadOn::Nothing => with.shared.settles.wait(*rt, settled, LOOK),
+                ReadOn::Later => rest(following, place),
+            }
         }
     }
     unreachable!()
+}
+
+/// Whether no more frames of a sending are read.
+fn is_to_end<D: Disk, A: Naming, R: Wait + Clock, T: Reporter>(
+    following: &Following<'_, D, A, R, T>,
+    place: &SendPlace,
+) -> bool {
+    let Following { rt, with, .. } = following;
+    with.has_ended() || with.followers.is_to_end(following.place) || place.is_over(*rt)
 }
 
 /// Waits about a second, whatever is settled meanwhile, unless the sending is over or is to end before.
@@ -196,73 +203,40 @@ fn rest<D: Disk, A: Naming, R: Wait + Clock, T: Reporter>(
     following: &Following<'_, D, A, R, T>,
     place: &SendPlace,
 ) {
-    let Following { rt, with, .. } = following;
     for _ in 0..WAITS {
-        if with.has_ended() || with.followers.is_to_end(following.place) || place.is_over(*rt) {
+        if is_to_end(following, place) {
             return;
         }
-        thread::sleep(*rt, Duration::from_millis(LOOK));
+        thread::sleep(following.rt, Duration::from_millis(LOOK));
     }
 }
 
-/// Reads the next frames of a sending, if there is room for them. The archive's replay follows.
+/// Reads the next frames of a sending, and gives them to the thread that sends. The archive's replay follows.
 fn read_on<D: Disk, A: Naming, R: Wait + Clock, T: Reporter, E: Disk + Drop>(
     following: &Following<'_, D, A, R, T>,
     stream: &FollowedStream,
     bound: i64,
     place: &SendPlace,
     replayer: &mut SettledReplayer<E>,
+    read: &mut ReadFrames,
 ) -> ReadOn
     requires { replayer.old.held.pass.table ≡ A.table }
     ensures pass { IsBack replayer.old.held.pass replayer.new.held.pass }
 {
-    place.set_looking(replayer.is_all_read());
-    let read = read_into(following, stream, bound, place, replayer);
-    if read == ReadOn::Read {
+    if let Err(refusal) = read_next(following, most_of(stream), replayer, read) {
+        return refuse(following.rt, place, refusal);
+    }
+    if !read.is_empty() {
+        place.give(following.rt, read);
         keep_up(following, replayer);
+        return ReadOn::Given;
     }
-    read
-}
-
-/// Reads the next frames into a sending, if it has room for them.
-fn read_into<D: Disk, A: Naming, R: Wait + Clock, T: Reporter, E: Disk + Drop>(
-    following: &Following<'_, D, A, R, T>,
-    stream: &FollowedStream,
-    bound: i64,
-    place: &SendPlace,
-    replayer: &mut SettledReplayer<E>,
-) -> ReadOn
-    requires { replayer.old.held.pass.table ≡ A.table }
-    ensures pass { IsBack replayer.old.held.pass replayer.new.held.pass }
-{
-    let mut sending = place.lock(following.rt);
-    let Some(sending) = &mut *sending else {
-        return ReadOn::Over;
-    };
-    if sending.over.is_some() {
-        return ReadOn::Over;
+    if !replayer.is_done() {
+        return ReadOn::Nothing;
     }
-    if !sending.publishing.wants_frames() {
-        return ReadOn::Full;
-    }
-    let before = replayer.next_position();
-    let turned = lay_next(
-        following,
-        most_of(stream),
-        replayer,
-        &mut sending.publishing,
-    );
-    let after = replayer.next_position();
-    match turned {
-        Err(refusal) => refused(&mut sending.publishing, refusal),
-        Ok(()) if after != before => ReadOn::Read,
-        Ok(()) if replayer.is_done() => {
-            sending.publishing.note_last(last_at(bound, after));
-            following.with.sendings.wake();
-            ReadOn::Full
-        }
-        Ok(()) => ReadOn::Nothing,
-    }
+    let last = last_at(bound, replayer.next_position());
+    place.give_last(following.rt, last);
+    ReadOn::Given
 }
 
 /// How many frames of a stream are read at once at most.
@@ -282,37 +256,36 @@ fn last_at(bound: i64, position: i64) -> LastFrames {
 }
 
 /// Frames could not be read: none comes any more, unless the device failed or there is no memory.
-fn refused(publishing: &mut Publishing, refusal: Refusal) -> ReadOn {
+fn refuse<R: Wait>(rt: &R, place: &SendPlace, refusal: Refusal) -> ReadOn {
     if matches!(refusal, Refusal::DeviceFault | Refusal::NoMemory) {
         return ReadOn::Later;
     }
-    publishing.note_last(LastFrames::Refused(refusal));
-    ReadOn::Full
+    place.give_last(rt, LastFrames::Refused(refusal));
+    ReadOn::Given
 }
 
-/// Lays the next frames of a replay into a publication, at most so many: they are settled, and follow those that were laid before.
+/// Reads the next frames of a replay, at most so many: they are settled. No lock of the sending is held meanwhile.
 ///
-/// Refused as `SettledReplayer::turn`.
-fn lay_next<D: Disk, A: Naming, R: Wait, T: Reporter, E: Disk + Drop>(
+/// Refused as `SettledReplayer::turn`; then none are kept.
+fn read_next<D: Disk, A: Naming, R: Wait, T: Reporter, E: Disk + Drop>(
     following: &Following<'_, D, A, R, T>,
     most: i64,
     replayer: &mut SettledReplayer<E>,
-    publishing: &mut Publishing,
+    read: &mut ReadFrames,
 ) -> Result<(), Refusal>
     requires table { replayer.old.held.pass.table ≡ A.table }
     requires some { pos 1 ≤ℤ most }
-    ensures laid { OnOk result (HandsShown LaysTaken publishing.old publishing.new (E.life replayer.new.reader.disk).obeys
+    ensures read { OnOk result (HandsShown KeepsRead read.old read.new (E.life replayer.new.reader.disk).obeys
         (reads (E.life replayer.old.reader.disk).now) (seen_to replayer.new.held.seen replayer.old.reader.cursor.known)
         replayer.old.reader.cursor.replay most replayer.new.reader.cursor.replay.next) }
+    ensures none { OnErr result (read.new ≡ []) }
     ensures pass { IsBack replayer.old.held.pass replayer.new.held.pass }
 {
-    replayer.turn(
-        following.rt,
-        following.alloc,
-        following.archive,
-        most,
-        publishing,
-    )
+    let turned = replayer.turn(following.rt, following.alloc, following.archive, most, read);
+    if turned.is_err() {
+        read.clear();
+    }
+    turned
 }
 
 /// Nothing is sent any more: closes the archive's replay, unless a client has asked for that and waits, leaves the place, and notes how

@@ -3,9 +3,12 @@
 
 use frame_core::Refusal;
 use server_receiver::Networks;
-use server_sender::{Endpoint, Publishing, SendOver, SendProgress, is_sendable};
+use server_sender::{
+    Endpoint, LastFrames, Publishing, ReadFrames, SendOver, SendProgress, is_sendable,
+};
 use server_state::Stopwatch;
 use std::alloc::{AllocError, Global};
+use std::mem;
 use std::net::{SocketAddr, UdpSocket};
 use std::rt::Clock;
 use std::sync::atomic::{AtomicBool, AtomicU64, Ordering};
@@ -25,6 +28,8 @@ pub(crate) struct ActiveSending {
     pub begun_at: u64,
     /// What is sent.
     pub publishing: Publishing,
+    /// Frames that were taken and are not laid yet.
+    pub read: ReadFrames,
     /// How far it was when that was noted last.
     pub noted: SendProgress,
     /// Whether it was reported that no receiver answers.
@@ -33,32 +38,40 @@ pub(crate) struct ActiveSending {
     pub over: Option<SendOver>,
 }
 
-impl ActiveSending {
-    /// Whether more frames are wanted: it is not over, and there is room for them.
-    pub fn wants_frames(&self) -> bool {
-        self.over.is_none() && self.publishing.wants_frames()
-    }
+/// What goes from the thread that reads to the one that sends.
+#[derive(Drop)]
+struct Handover {
+    /// Frames that were read and not taken yet.
+    frames: ReadFrames,
+    /// Why none come after them, if that is so.
+    last: Option<LastFrames>,
+    /// Whether none are taken any more.
+    is_over: bool,
 }
 
 /// The place of a sending.
 #[derive(Drop)]
 pub(crate) struct SendPlace {
     sending: Mutex<Option<ActiveSending>>,
-    /// The thread that reads goes on: there is room for frames, or the sending is over.
+    handover: Mutex<Handover>,
+    /// The thread that reads goes on: what it gave was taken, or the sending is over.
     changed: Condvar,
     /// Whether there is a sending.
     is_taken: AtomicBool,
-    /// Whether the thread that reads may hold the lock for long, as it looks how far the recording is recorded.
-    is_looking: AtomicBool,
 }
 
 impl SendPlace {
-    fn new() -> SendPlace {
+    fn new(alloc: Global) -> SendPlace {
+        let handover = Handover {
+            frames: ReadFrames::new(alloc),
+            last: None,
+            is_over: true,
+        };
         SendPlace {
             sending: Mutex::new(None),
+            handover: Mutex::new(handover),
             changed: Condvar::new(),
             is_taken: AtomicBool::new(false),
-            is_looking: AtomicBool::new(false),
         }
     }
 
@@ -72,17 +85,9 @@ impl SendPlace {
         self.sending.lock(rt)
     }
 
-    /// The same for the thread that sends, which does not wait for a look at the archive: None then.
-    pub fn lock_to_send<R: Wait>(&self, rt: &R) -> Option<MutexGuard<'_, Option<ActiveSending>>> {
-        match self.sending.try_lock() {
-            Some(sending) => Some(sending),
-            None if self.is_looking.load(Ordering::SeqCst) => None,
-            None => Some(self.sending.lock(rt)),
-        }
-    }
-
     /// A sending begins.
     pub fn put<R: Wait>(&self, rt: &R, sending: ActiveSending) {
+        self.reset(rt, false);
         *self.sending.lock(rt) = Some(sending);
         self.is_taken.store(true, Ordering::SeqCst);
     }
@@ -90,46 +95,65 @@ impl SendPlace {
     /// Nothing is sent any more: what was.
     pub fn take<R: Wait>(&self, rt: &R) -> Option<ActiveSending> {
         self.is_taken.store(false, Ordering::SeqCst);
-        self.is_looking.store(false, Ordering::SeqCst);
+        self.reset(rt, true);
         self.sending.lock(rt).take()
     }
 
-    /// Whether nothing is sent, or it is over.
-    pub fn is_over<R: Wait>(&self, rt: &R) -> bool {
-        let sending = self.sending.lock(rt);
-        match &*sending {
-            Some(sending) => sending.over.is_some(),
-            None => true,
+    /// Nothing is handed over.
+    fn reset<R: Wait>(&self, rt: &R, is_over: bool) {
+        let mut handover = self.handover.lock(rt);
+        handover.frames.clear();
+        handover.last = None;
+        handover.is_over = is_over;
+    }
+
+    /// Gives frames that were read to the thread that sends, for those that are there: none after `wait` has said so.
+    pub fn give<R: Wait>(&self, rt: &R, read: &mut ReadFrames) {
+        let mut handover = self.handover.lock(rt);
+        mem::swap(&mut handover.frames, read);
+    }
+
+    /// No frames come after those that were given, for this reason.
+    pub fn give_last<R: Wait>(&self, rt: &R, last: LastFrames) {
+        self.handover.lock(rt).last = Some(last);
+    }
+
+    /// Takes what was given, if there are frames. Else why none come any more, if that is so.
+    pub fn take_given<R: Wait>(&self, rt: &R, read: &mut ReadFrames) -> Option<LastFrames> {
+        let mut handover = self.handover.lock(rt);
+        if handover.frames.is_empty() {
+            return handover.last;
         }
+        mem::swap(&mut handover.frames, read);
+        self.changed.notify_all();
+        None
     }
 
-    /// Whether the thread that reads is to look how far the recording is recorded.
-    pub fn set_looking(&self, is_looking: bool) {
-        self.is_looking.store(is_looking, Ordering::SeqCst);
-    }
-
-    /// There is room for frames, or the sending is over.
-    pub fn notify(&self) {
+    /// The sending is over: nothing is taken any more.
+    pub fn end<R: Wait>(&self, rt: &R) {
+        self.handover.lock(rt).is_over = true;
         self.changed.notify_all();
     }
 
-    /// Waits until there is room for frames, or the sending is over, for so many milliseconds at most.
-    pub fn wait<R: Wait + Clock>(&self, rt: &R, most: u64) {
-        let sending = self.sending.lock(rt);
+    /// Whether the sending is over.
+    pub fn is_over<R: Wait>(&self, rt: &R) -> bool {
+        self.handover.lock(rt).is_over
+    }
+
+    /// Waits until what was given is taken, for so many milliseconds at most. Whether it is; none is once the sending is over.
+    pub fn wait<R: Wait + Clock>(&self, rt: &R, most: u64) -> bool {
+        let handover = self.handover.lock(rt);
         let most = Duration::from_millis(most);
-        let (sending, _) = self
+        let (handover, _) = self
             .changed
-            .wait_timeout_while(rt, sending, most, |sending| is_full(sending));
-        let _ = sending.is_some();
+            .wait_timeout_while(rt, handover, most, |handover| waits(handover));
+        handover.frames.is_empty() && handover.last.is_none() && !handover.is_over
     }
 }
 
-/// Whether a sending is not over, and has no room for frames.
-fn is_full(sending: &Option<ActiveSending>) -> bool {
-    match sending {
-        Some(sending) => sending.over.is_none() && !sending.publishing.wants_frames(),
-        None => false,
-    }
+/// Whether something was given and not taken, and the sending is not over.
+fn waits(handover: &Handover) -> bool {
+    !handover.is_over && (!handover.frames.is_empty() || handover.last.is_some())
 }
 
 /// The places of sendings, and the socket that their datagrams go out by.
@@ -160,7 +184,7 @@ impl Sendings {
     ) -> Result<Sendings, AllocError> {
         let mut places = Vec::with_capacity(alloc, count)?;
         for _ in 0..count {
-            places.push(SendPlace::new())?;
+            places.push(SendPlace::new(alloc))?;
         }
         Ok(Sendings {
             socket,

@@ -1,8 +1,9 @@
 -- A sending that is under way: docs/PROTOCOL.md, "Publications of recordings".
-use Rattle.std.specs.Prelude.{◌≡◌, ◌&&◌, ℕ, ℤ, nat_lt, not, unsigned_abs, Bool, true, false, if◌then◌else◌, Option, None, Some, is_some}
+use Rattle.std.specs.Prelude.{◌≡◌, ◌&&◌, ◌++◌, ℕ, ℤ, not, unsigned_abs, Bool, true, false, List, [], ◌∷◌, Option, None, Some, is_some}
 use Rattle.frame_core.specs.declared.block.Publication.{Publication}
 use Rattle.frame_core.specs.declared.frame.Frame.{Frame}
 use Rattle.frame_core.specs.declared.geometry.Geometry.{Geometry}
+use Rattle.archive_model.specs.declared.reply.PolledFrame.{PolledFrame}
 use Rattle.publication_core.specs.Sending.{Sending, after_end, after_hearing, after_laying, after_nak, is_finished, lay_position, new_sending, wants_frames}
 use Rattle.server_sender.specs.declared.feedback.Feedback.{Feedback}
 use Rattle.server_sender.specs.declared.feedback.Feedback.TheVariants.{Repeat, Status}
@@ -27,13 +28,18 @@ abbrev pub after_feedback : ℕ → Feedback → PublishingView → PublishingVi
 after_feedback now (Status s) p = record p { sending = after_hearing now s p.sending }
 after_feedback now (Repeat n) p = record p { sending = after_nak now n p.sending }
 
--- a frame at a position is laid, and waits; but one before the frame that comes next was laid already
-abbrev pub after_taking : ℤ → Frame → PublishingView → PublishingView
-after_taking position f p =
-    if nat_lt (unsigned_abs position) (lay_position p.sending) then p else record p { sending = after_laying (unsigned_abs position) f p.sending }
+-- a copy of a frame that begins at a position comes after those that were read before
+abbrev pub KeepsRead : List PolledFrame → ℤ → Frame → List PolledFrame → Type 0
+KeepsRead old at frame new = new ≡ old ++ record { position = at; frame = frame } ∷ []
 
-abbrev pub LaysTaken : PublishingView → ℤ → Frame → PublishingView → Type 0
-LaysTaken old position f new = new ≡ after_taking position f old
+-- a frame is laid where it begins, and waits
+abbrev pub after_frame : PolledFrame → PublishingView → PublishingView
+after_frame f p = record p { sending = after_laying (unsigned_abs f.position) f.frame p.sending }
+
+-- frames are laid, one after another
+abbrev pub laid_each : List PolledFrame → PublishingView → PublishingView
+laid_each [] p = p
+laid_each (f ∷ fs) p = laid_each fs (after_frame f p)
 
 -- more frames are wanted: some may come, the stream does not end, and there is room for them
 abbrev pub wants_more : PublishingView → Bool

@@ -1,13 +1,15 @@
 //! A sending that is under way. docs/PROTOCOL.md, "Publications of recordings".
 
-ghost use Rattle.std.specs.Prelude.{◌≡◌, Some};
+ghost use Rattle.std.specs.Prelude.{◌≡◌, [], OnErr, OnOk, Some};
 ghost use Rattle.publication_core.specs.Sending.{after_end};
-ghost use Rattle.server_sender.specs.Publishing.{Concludes, after_feedback, begun_publishing, has_all, sending_progress, wants_more};
+ghost use Rattle.server_sender.specs.Publishing.{Concludes, after_feedback, after_frame, begun_publishing, has_all, laid_each, sending_progress, wants_more};
 
 use crate::feedback::Feedback;
+use crate::read_frames::ReadFrames;
+use archive_model::PolledFrame;
 use frame_core::{Geometry, Publication, Refusal};
 use publication_core::Sender;
-use std::alloc::Global;
+use std::alloc::{AllocError, Global};
 use std::marker::Model;
 
 /// Why no more frames of a sending come.
@@ -49,8 +51,7 @@ pub struct SendProgress {
     pub repeats: u64,
 }
 
-/// A sending that is under way: its publication, when it began, why no more frames come, and how many datagrams were repeated. It
-/// takes frames of a replay: each is laid into its publication, and waits to be sent.
+/// A sending that is under way: its publication, when it began, why no more frames come, and how many datagrams were repeated.
 #[derive(Drop)]
 pub struct Publishing {
     pub(crate) sender: Sender,
@@ -96,6 +97,28 @@ impl Publishing {
         ensures { result ≡ self.now.begun_at }
     {
         self.begun_at
+    }
+
+    /// Lays frames that were read into the publication, in their order, and drops each: it waits to be sent. AllocError if there is
+    /// no memory for one: it and those after it stay. Costs a copy of each.
+    pub fn lay_all(&mut self, read: &mut ReadFrames) -> Result<(), AllocError>
+        ensures laid { laid_each read.new self.new ≡ laid_each read.old self.old }
+        ensures all { OnOk result (read.new ≡ []) }
+    {
+        while let Some(first) = read.first() {
+            self.lay(first)?;
+            read.drop_first();
+        }
+        Ok(())
+    }
+
+    /// Lays a frame where it begins: it waits to be sent. AllocError if there is no memory; then nothing changes.
+    fn lay(&mut self, read: &PolledFrame) -> Result<(), AllocError>
+        ensures laid { OnOk result (self.new ≡ after_frame read.now self.old) }
+        ensures same { OnErr result (self.new ≡ self.old) }
+    {
+        let frame = read.frame.as_ref();
+        self.sender.lay(read.position.unsigned_abs(), &frame)
     }
 
     /// Hears what a receiver answers, at a time in milliseconds. Costs a step for each datagram that is kept; does not allocate.
