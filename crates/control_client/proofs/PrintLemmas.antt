@@ -6,7 +6,7 @@ use Rattle.control_client.specs.declared.answer.Answer.{Answer}
 use Rattle.control_client.specs.declared.fault.AskFault.{AskFault}
 use Rattle.control_client.specs.declared.fault.AskFault.TheVariants.{Connection, Output, Memory}
 use Rattle.control_client.specs.declared.tally.Tally.{Tally}
-use Rattle.control_client.specs.Asking.{Gives, GivesFirst, HasPrinted, HasPrintedFirst, PrintsUpTo}
+use Rattle.control_client.specs.Asking.{GivesAll, GivesFirst, HasPrinted, HasPrintedFirst, PrintsUpTo}
 use Rattle.control_client.specs.Replies.{answer_of}
 use Rattle.control_client.specs.Tally.{IsTally, MovesPiece, StopsAt}
 
@@ -17,7 +17,7 @@ pub record HasPassed (asked : List (List ℕ)) (until : Option (List ℕ)) (left
   pub printed : Appends contents written came
   pub kept : IsTally asked until came tally
 
-gives : (left more : Option (List ℕ)) (came : List ℕ) → Consumes left more came → IsAtEnd more → Gives left came
+gives : (left more : Option (List ℕ)) (came : List ℕ) → Consumes left more came → IsAtEnd more → GivesAll left came
 gives None more came consumed end = tt
 gives (Some xs) None came consumed end = absurd consumed
 gives (Some xs) (Some ys) came consumed end = sym (consumed ∙ ap (λ rest. came ++ rest) end ∙ append-nil came)

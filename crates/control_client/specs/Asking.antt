@@ -9,9 +9,9 @@ use Rattle.control_client.specs.Lines.{text_of}
 use Rattle.control_client.specs.Replies.{answer_of, verdict_after}
 
 -- the bytes are all that a reader had left, if it is known what it had
-abbrev pub Gives : Option (List ℕ) → List ℕ → Type 0
-Gives None came = Unit {0}
-Gives (Some left) came = came ≡ left
+abbrev pub GivesAll : Option (List ℕ) → List ℕ → Type 0
+GivesAll None came = Unit {0}
+GivesAll (Some left) came = came ≡ left
 
 -- the bytes are the first ones that it had left
 abbrev pub GivesFirst : Option (List ℕ) → List ℕ → Type 0
@@ -23,7 +23,7 @@ GivesFirst (Some left) came = (more : List ℕ) × (left ≡ came ++ more)
 module _ (left contents written : Option (List ℕ)) where
   -- all that a reader had left was printed
   pub record HasPrinted (came : List ℕ) : Type 0 where
-    pub all : Gives left came
+    pub all : GivesAll left came
     pub printed : Appends contents written came
 
   -- the first bytes of it were
@@ -41,7 +41,7 @@ module _ (left contents written : Option (List ℕ)) where
 module _ (answers : List ℕ → Option (List ℕ) → Type 0) (text : List ℕ) where
   -- the bytes are all that the server answered to the text
   abbrev pub IsReply : List ℕ → Type 0
-  IsReply came = (left : Option (List ℕ)) × answers text left × Gives left came
+  IsReply came = (left : Option (List ℕ)) × answers text left × GivesAll left came
 
   -- they are the first ones that it answered, or there is none
   abbrev pub IsReplyBegun : List ℕ → Type 0
