@@ -211,7 +211,8 @@ fn rest<D: Disk, A: Naming, R: Wait + Clock, T: Reporter>(
     }
 }
 
-/// Reads the next frames of a sending, and gives them to the thread that sends. The archive's replay follows.
+/// Reads the next frames of a sending, whose frames before them are taken, and gives them to the thread that sends. The archive's
+/// replay follows what is taken.
 fn read_on<D: Disk, A: Naming, R: Wait + Clock, T: Reporter, E: Disk + Drop>(
     following: &Following<'_, D, A, R, T>,
     stream: &FollowedStream,
@@ -223,12 +224,12 @@ fn read_on<D: Disk, A: Naming, R: Wait + Clock, T: Reporter, E: Disk + Drop>(
     requires { replayer.old.held.pass.table ≡ A.table }
     ensures pass { IsBack replayer.old.held.pass replayer.new.held.pass }
 {
+    keep_up(following, replayer);
     if let Err(refusal) = read_next(following, most_of(stream), replayer, read) {
         return refuse(following.rt, place, refusal);
     }
     if !read.is_empty() {
         place.give(following.rt, read);
-        keep_up(following, replayer);
         return ReadOn::Given;
     }
     if !replayer.is_done() {
