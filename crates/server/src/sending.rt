@@ -31,7 +31,7 @@ const LOOK: u64 = 80;
 /// Waits of 80 milliseconds after which frames that could not be read are asked for again.
 const WAITS: u64 = 12;
 /// Bytes of frames that are read at once, about.
-const READ_AT_ONCE: i64 = 65_536;
+const READ_AT_ONCE: i64 = 131_072;
 
 /// What came of reading on.
 #[derive(Clone, Copy, Debug, PartialEq, Eq)]
@@ -244,7 +244,7 @@ fn read_on<D: Disk, A: Naming, R: Wait + Clock, T: Reporter, E: Disk + Drop>(
 fn most_of(stream: &FollowedStream) -> i64
     ensures { pos 1 ≤ℤ result }
 {
-    (READ_AT_ONCE / i64::from(stream.geometry.mtu.max(1))).clamp(1, 64)
+    (READ_AT_ONCE / i64::from(stream.geometry.mtu.max(1))).clamp(1, 128)
 }
 
 /// Why no more frames come of a replay that is done.

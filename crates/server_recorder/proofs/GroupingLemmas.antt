@@ -15,7 +15,7 @@ value_more f xs n x below before is =
     ∙ (ap₂ (λ front y. front ++ y ∷ []) before is ∙ sym (map-range_with_len_more f 0 n n (omega arith)))
 
 -- the numbers below a bound that pass a test
-tested_more : (test : ℕ → Bool) (n : ℕ) → filter test (range_with_len 0 (n + 1)) ≡ filter test (range_with_len 0 n) ++ cond (test n) (n ∷ []) []
+pub tested_more : (test : ℕ → Bool) (n : ℕ) → filter test (range_with_len 0 (n + 1)) ≡ filter test (range_with_len 0 n) ++ cond (test n) (n ∷ []) []
 tested_more test n =
     ap (filter test) (sym (map-id (range_with_len 0 (n + 1))))
     ∙ (filter_of_map_range_with_len_more test (λ x. x) 0 n n (omega arith) ∙ ap (λ xs. filter test xs ++ cond (test n) (n ∷ []) []) (map-id (range_with_len 0 n)))

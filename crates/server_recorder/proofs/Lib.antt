@@ -1,5 +1,6 @@
 mod GroupingLemmas
 mod SeatLemmas
+mod SettlesLemmas
 mod SettlingLemmas
 pub mod StreamLemmas
 pub mod StandLemmas

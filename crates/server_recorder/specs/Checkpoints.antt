@@ -22,20 +22,20 @@ wait_while false wait = wait
 -- ---- where an archive stands
 
 -- a checkpoint is due, and no write has failed
-abbrev pub is_due : Standing → Bool
-is_due s = not s.is_broken && is_checkpoint_due s.counted s.active s.limit
+abbrev pub is_checkpoint_wanted : Standing → Bool
+is_checkpoint_wanted s = not s.is_broken && is_checkpoint_due s.counted s.active s.limit
 
 -- more entries count than a checkpoint leaves, and no write has failed
 abbrev pub is_long : Standing → Bool
 is_long s = nat_lt s.active s.counted && not s.is_broken
 
-abbrev pub is_first : BankVersion → Bool
-is_first One = true
-is_first Two = false
+abbrev pub is_version_one : BankVersion → Bool
+is_version_one One = true
+is_version_one Two = false
 
 -- a checkpoint is worthwhile where a server begins: an entry counts, or the bank is of version 1
 abbrev pub is_worthwhile : Standing → Bool
-is_worthwhile s = nat_lt 0 s.counted || is_first s.version
+is_worthwhile s = nat_lt 0 s.counted || is_version_one s.version
 
 -- ---- what the pass of the seats does
 

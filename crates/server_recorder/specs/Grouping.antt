@@ -37,13 +37,13 @@ with_near s due = map (near_or_due s due) all_seats
 abbrev pub seats_of : List Bool → List ℕ
 seats_of seats = filter (has_seat seats) all_seats
 
-abbrev pub session_of : Option Written → Option ℤ
-session_of None = None
-session_of (Some w) = Some w.session
+abbrev pub written_session : Option Written → Option ℤ
+written_session None = None
+written_session (Some w) = Some w.session
 
 -- the number of the session at a seat, if it wrote something that it did not settle
 abbrev pub session_written : Settling → ℕ → Option ℤ
-session_written s seat = session_of (session_at seat s.sessions).written
+session_written s seat = written_session (session_at seat s.sessions).written
 
 -- of several seats, in their order, the sessions that wrote something
 abbrev pub sessions_written : Settling → List ℕ → List ℤ

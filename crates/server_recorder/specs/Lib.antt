@@ -11,6 +11,8 @@ pub mod Grouping
 pub mod Flushing
 -- When checkpoints are made.
 pub mod Checkpoints
+-- What settles by which calls.
+pub mod Settles
 -- How many recordings the server begins.
 pub mod Tokens
 -- What is done for an image that waits to be recorded.

@@ -1,5 +1,5 @@
 -- What is done for an image that waits to be recorded: docs/SERVING.md, "Recording without being asked".
-use Rattle.std.specs.Prelude.{◌-◌, ℕ, ℤ, nat_le, Bool, false, true, if◌then◌else◌, not, Option, Some, None, Result, Ok, Err}
+use Rattle.std.specs.Prelude.{◌-◌, ℕ, ℤ, nat_le, Bool, false, true, if◌then◌else◌, not, Option, Some, Result, Ok}
 use Rattle.std.specs.Ordering.{int_eq}
 use Rattle.archive_model.specs.declared.reply.Reply.{Reply}
 use Rattle.archive_model.specs.declared.reply.Reply.TheVariants.{Stopped}

@@ -1,5 +1,5 @@
 -- The seats of the recorder sessions that images feed, and the passes: docs/ARCHITECTURE.md, "Followers".
-use Rattle.std.specs.Prelude.{◌≡◌, ◌+◌, ◌<◌, ◌≤◌, ℕ, ℤ, true, List, [], ◌∷◌, Option, Some, Result, Err, IfErr, IfOk, IsErrOf, MatchOption, MatchResult}
+use Rattle.std.specs.Prelude.{◌≡◌, ◌+◌, ◌<◌, ◌≤◌, ℕ, ℤ, true, List, [], ◌∷◌, Option, Some, Result, Err, IsErrOf, MatchOption, MatchResult}
 use Rattle.std.specs.List.{zip}
 use Rattle.atomic_table.specs.Seated.{TableId}
 use Rattle.frame_core.specs.declared.refusal.Refusal.{Refusal}

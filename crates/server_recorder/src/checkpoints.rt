@@ -1,7 +1,7 @@
 //! Checkpoints by the thread that records. docs/SERVING.md, "How long a history lasts".
 
 ghost use Rattle.std.specs.Prelude.{◌≡◌, ◌&&◌, Bool, IsTrue, true};
-ghost use Rattle.server_recorder.specs.Checkpoints.{LooksFirst, MakesCheckpoint, MayCheckpoint, Retries, is_due, is_long, is_worthwhile, wait_while};
+ghost use Rattle.server_recorder.specs.Checkpoints.{LooksFirst, MakesCheckpoint, MayCheckpoint, Retries, is_checkpoint_wanted, is_long, is_worthwhile, wait_while};
 
 use crate::own_recordings::is_past;
 use crate::recording::Recording;
@@ -28,7 +28,7 @@ pub(crate) fn keep_short<D: Disk, A: Naming, R: Wait, T: Reporter>(
     seats: &mut Seats<A>,
     standing: &Standing,
 )
-    ensures { MayCheckpoint D.life A.opening (is_due standing.now) seats.old seats.new }
+    ensures { MayCheckpoint D.life A.opening (is_checkpoint_wanted standing.now) seats.old seats.new }
 {
     if is_begun(with.shared, standing) {
         make(with, seats, standing);
@@ -69,17 +69,17 @@ fn make<D: Disk, A: Naming, R: Wait, T: Reporter>(
 /// Whether the caller is to make a checkpoint of an archive that stands so: one is due, and no write has failed. Then no other
 /// thread is to, until it is noted.
 pub fn is_begun<T: Reporter>(shared: &Shared<T>, standing: &Standing) -> bool
-    ensures { IsTrue result → is_due standing.now ≡ true }
+    ensures { IsTrue result → is_checkpoint_wanted standing.now ≡ true }
 {
-    is_due(standing)
+    is_checkpoint_wanted(standing)
         && shared
             .checkpointing
             .begins(standing.counted, standing.active, standing.limit)
 }
 
 /// Whether a checkpoint of an archive that stands so is due, and no write of it has failed.
-fn is_due(standing: &Standing) -> bool
-    ensures { result ≡ is_due standing.now }
+fn is_checkpoint_wanted(standing: &Standing) -> bool
+    ensures { result ≡ is_checkpoint_wanted standing.now }
 {
     !standing.is_broken && is_checkpoint_due(standing.counted, standing.active, standing.limit)
 }

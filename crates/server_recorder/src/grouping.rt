@@ -1,9 +1,10 @@
 //! Sessions that are due, which settle together, and whose segment files are flushed before. docs/SERVING.md, "When a frame is
 //! durable".
 
-ghost use Rattle.std.specs.Prelude.{◌≡◌, IfSome};
+ghost use Rattle.std.specs.Prelude.{◌≡◌, IfSome, MatchBool, true};
 ghost use Rattle.std.specs.List.{count_by};
 ghost use Rattle.server_recorder.specs.Grouping.{due_seats, seats_of, sessions_written, with_near};
+ghost use Rattle.server_recorder.specs.Settles.{LooksForFiles, SettlesAfterLook, SettlesDue, SettlesAlone, SettlesSeats, SettlesTogether, seated_each, settled_seats, settling_seats};
 
 use crate::checkpoints::keep_short;
 use crate::flushing::Flushing;
@@ -31,23 +32,37 @@ pub(crate) fn settle_due<D: Disk, A: Naming, R: Wait + Clock, T: Reporter>(
     settling: &mut Settling,
     taken: &Taken,
     flushing: &Flushing,
-) {
-    let mut due = due_seats(settling, with.shared.queue.has_block(with.rt), taken);
-    let due_count = count(&due);
-    if due_count == 0 {
+)
+    ensures { SettlesDue D.life A.opening taken.now settling.old settling.new seats.old seats.new }
+{
+    let block_waits = with.shared.queue.has_block(with.rt);
+    let chosen = settling_seats(settling, block_waits, taken);
+    match seats_of(with.alloc, &chosen) {
+        Some(group) => settle_chosen(with, seats, settling, &chosen, group.as_slice(), flushing),
+        None => settle_each(with, seats, settling, &chosen, false),
+    }
+}
+
+/// Settles the sessions at some seats, whose numbers these are: several together if that goes, else each by itself.
+fn settle_chosen<D: Disk, A: Naming, R: Wait + Clock, T: Reporter>(
+    with: &Recording<'_, D, A, R, T>,
+    seats: &mut Seats<A>,
+    settling: &mut Settling,
+    chosen: &[bool; FED_SESSIONS],
+    group: &[Seat],
+    flushing: &Flushing,
+)
+    requires { group.now ≡ seats_of chosen.now }
+    ensures { SettlesAfterLook D.life A.opening group.now settling.old settling.new seats.old seats.new }
+{
+    if group.is_empty() {
         return;
     }
-    if due_count > 1 {
-        due = with_near(settling, &due);
+    let is_flushed = flush(with, seats, settling, group, flushing);
+    if group.len() > 1 && settle_group(with, seats, settling, group, is_flushed) {
+        return;
     }
-    let mut is_flushed = false;
-    if let Some(group) = seats_of(with.alloc, &due) {
-        is_flushed = flush(with, seats, settling, group.as_slice(), flushing);
-        if due_count > 1 && settle_group(with, seats, settling, group.as_slice(), is_flushed) {
-            return;
-        }
-    }
-    settle_each(with, seats, settling, &due, is_flushed);
+    settle_each(with, seats, settling, chosen, is_flushed);
 }
 
 /// Settles the sessions at some seats, each by itself. `is_flushed`: their segment files were flushed.
@@ -57,12 +72,27 @@ fn settle_each<D: Disk, A: Naming, R: Wait + Clock, T: Reporter>(
     settling: &mut Settling,
     due: &[bool; FED_SESSIONS],
     is_flushed: bool,
-) {
+)
+    ensures calls { SettlesAlone D.life A.opening (seats_of due.now) settling.old seats.old seats.new }
+    ensures settled { SettlesSeats (seats_of due.now) settling.old settling.new }
+{
     let syncs = if is_flushed { 0 } else { SYNCS };
     for seat in 0..FED_SESSIONS {
         if due[seat] {
             let _ = settle_alone(with, seats, settling, seat, syncs);
         }
+    }
+}
+
+/// Of each seat whether its session settles: it is due, or near to be due where several are due.
+fn settling_seats(settling: &Settling, block_waits: bool, taken: &Taken) -> [bool; FED_SESSIONS]
+    ensures { result ≡ settling_seats block_waits taken.now settling.now }
+{
+    let due = due_seats(settling, block_waits, taken);
+    if count(&due) > 1 {
+        with_near(settling, &due)
+    } else {
+        due
     }
 }
 
@@ -124,12 +154,11 @@ fn settle_group<D: Disk, A: Naming, R: Wait + Clock, T: Reporter>(
     settling: &mut Settling,
     group: &[Seat],
     is_flushed: bool,
-) -> bool {
-    for seat in group {
-        if let Some(written) = settling.written(*seat) {
-            seats.set_session(*seat, written.session);
-        }
-    }
+) -> bool
+    ensures calls { SettlesTogether D.life A.opening group.now settling.old seats.old result seats.new }
+    ensures settled { MatchBool result (SettlesSeats group.now settling.old settling.new) (settling.new ≡ settling.old) }
+{
+    seat_each(seats, settling, group);
     let watch = Stopwatch::new(with.rt);
     let (answer, standing) = seats.settle_all(with.rt, with.alloc, with.archive, group);
     let is_done = match answer {
@@ -141,10 +170,12 @@ fn settle_group<D: Disk, A: Naming, R: Wait + Clock, T: Reporter>(
             };
             note_time(with, settling, &watch, syncs);
             note_group(with, settling, group, positions.as_slice());
+            take_each(settling, group);
             true
         }
         Err(Refusal::DeviceFault) => {
             refuse_group(with, settling, group);
+            take_each(settling, group);
             true
         }
         Err(_) => false,
@@ -155,21 +186,41 @@ fn settle_group<D: Disk, A: Naming, R: Wait + Clock, T: Reporter>(
     is_done
 }
 
-/// The sessions of several seats settled, and each is recorded up to its own position. One that was stopped before has none.
+/// Seats call for the sessions that wrote something there.
+fn seat_each<A: Naming>(seats: &mut Seats<A>, settling: &Settling, group: &[Seat])
+    ensures { seats.new ≡ seated_each settling.now group.now seats.old }
+{
+    for seat in group {
+        if let Some(written) = settling.written(*seat) {
+            seats.set_session(*seat, written.session);
+        }
+    }
+}
+
+/// The sessions of several seats settled what they wrote.
+fn take_each(settling: &mut Settling, group: &[Seat])
+    ensures { settling.new ≡ settled_seats group.now settling.old }
+{
+    for seat in group {
+        let _ = settling.take(*seat);
+    }
+}
+
+/// Notes that the sessions of several seats settled, and that each is recorded up to its own position. One that was stopped before
+/// has none.
 fn note_group<D: Disk, A: Naming, R: Wait + Clock, T: Reporter>(
     with: &Recording<'_, D, A, R, T>,
-    settling: &mut Settling,
+    settling: &Settling,
     group: &[Seat],
     positions: &[Option<i64>],
 ) {
-    for (seat, position) in group.iter().zip(positions) {
-        if let Some(written) = settling.take(*seat) {
-            match position {
-                Some(position) => note_settled(with, &written, *position),
-                None => {
-                    with.shared
-                        .refused(with.rt, written.session, Refusal::StaleSession);
-                }
+    for (index, seat) in group.iter().enumerate() {
+        if let Some(written) = settling.written(*seat) {
+            match positions.get(index) {
+                Some(Some(position)) => note_settled(with, &written, *position),
+                _ => with
+                    .shared
+                    .refused(with.rt, written.session, Refusal::StaleSession),
             }
         }
     }
@@ -178,11 +229,11 @@ fn note_group<D: Disk, A: Naming, R: Wait + Clock, T: Reporter>(
 /// The disk failed what the sessions of several seats were to settle: each loses its image.
 fn refuse_group<D: Disk, A: Naming, R: Wait + Clock, T: Reporter>(
     with: &Recording<'_, D, A, R, T>,
-    settling: &mut Settling,
+    settling: &Settling,
     group: &[Seat],
 ) {
     for seat in group {
-        if let Some(written) = settling.take(*seat) {
+        if let Some(written) = settling.written(*seat) {
             with.shared
                 .refused(with.rt, written.session, Refusal::DeviceFault);
         }
@@ -197,7 +248,10 @@ fn flush<D: Disk, A: Naming, R: Wait + Clock, T: Reporter>(
     settling: &mut Settling,
     group: &[Seat],
     flushing: &Flushing,
-) -> bool {
+) -> bool
+    ensures looks { LooksForFiles D.life A.opening seats.old seats.new }
+    ensures paced { settling.new ≡ record settling.old { pace = settling.new.pace } }
+{
     if !settling.is_slow() || !flushing.works() {
         return false;
     }

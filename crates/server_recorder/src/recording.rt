@@ -1,5 +1,9 @@
 //! The thread that records. docs/ARCHITECTURE.md, "Serving".
 
+ghost use Rattle.std.specs.Prelude.{◌≡◌, ◌∷◌, []};
+ghost use Rattle.server_recorder.specs.Settles.{SettlesOne, SettlesSeats};
+ghost use Rattle.server_recorder.specs.Settling.{session_at};
+
 use crate::checkpoints::{keep_short, retry_when_full, wait_at_most};
 use crate::flushing::{Flusher, Flushing, MOST_FLUSHED};
 use crate::grouping::settle_due;
@@ -163,7 +167,10 @@ pub(crate) fn settle<D: Disk, A: Naming, R: Wait + Clock, T: Reporter>(
     seats: &mut Seats<A>,
     settling: &mut Settling,
     seat: Seat,
-) -> bool {
+) -> bool
+    ensures calls { SettlesOne D.life A.opening seat (session_at seat settling.old.sessions).written seats.old result seats.new }
+    ensures settled { SettlesSeats (seat ∷ []) settling.old settling.new }
+{
     settle_alone(with, seats, settling, seat, SYNCS)
 }
 
@@ -174,7 +181,10 @@ pub(crate) fn settle_alone<D: Disk, A: Naming, R: Wait + Clock, T: Reporter>(
     settling: &mut Settling,
     seat: Seat,
     syncs: usize,
-) -> bool {
+) -> bool
+    ensures calls { SettlesOne D.life A.opening seat (session_at seat settling.old.sessions).written seats.old result seats.new }
+    ensures settled { SettlesSeats (seat ∷ []) settling.old settling.new }
+{
     let Some(written) = settling.take(seat) else {
         return true;
     };
@@ -215,7 +225,9 @@ pub(crate) fn note_time<D: Disk, A: Naming, R: Wait + Clock, T: Reporter>(
     settling: &mut Settling,
     watch: &Stopwatch,
     syncs: usize,
-) {
+)
+    ensures { settling.new ≡ record settling.old { pace = settling.new.pace } }
+{
     if let Some(micros) = watch.micros(with.rt) {
         settling.note_syncs(micros, syncs);
         if with.shared.meter.is_on() {
