@@ -1,3 +1,4 @@
+mod AskedLemmas
 mod BoundedLemmas
 mod BytesLemmas
 mod CopyLemmas

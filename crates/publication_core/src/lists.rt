@@ -2,7 +2,7 @@
 
 ghost use Rattle.std.specs.Prelude.{◌≡◌, ◌≤◌, ◌^◌, map, nat_le, IfOk, OnOk, OnErr};
 ghost use Rattle.publication_core.specs.Sending.{first_passes};
-ghost use Rattle.std.specs.List.{position};
+ghost use Rattle.std.specs.List.{list_any, position};
 ghost use Rattle.frame_core.specs.FrameEncoding.{frame_of};
 ghost use Rattle.publication_core.specs.Datagrams.{after_repeat, alone, is_repeat_asked, laid, marked, unconsumed};
 
@@ -95,6 +95,13 @@ pub(crate) fn repeat_first(sent: &mut VecDeque<Datagram>, now: u64) -> Option<us
         datagram.repeat(now);
     }
     Some(index)
+}
+
+/// Whether a datagram is asked for.
+pub(crate) fn is_any_asked(sent: &VecDeque<Datagram>) -> bool
+    ensures { result ≡ list_any is_repeat_asked sent.now.items }
+{
+    sent.iter().any(|datagram| datagram.is_repeat_asked)
 }
 
 /// The index of the first datagram that is asked for.

@@ -5,8 +5,6 @@ ghost use Rattle.std.specs.Slice.{IsItemAt};
 ghost use Rattle.frame_core.specs.FrameEncoding.{frame_of};
 ghost use Rattle.flow_control.specs.Feedback.{has_term};
 ghost use Rattle.publication_core.specs.Flows.{after_heartbeat, after_setup, may_go, never_goes};
-ghost use Rattle.publication_core.specs.Datagrams.{is_repeat_asked};
-ghost use Rattle.std.specs.List.{list_any};
 ghost use Rattle.publication_core.specs.Sending.{Sends, after_again, after_end, after_hearing, after_laying, after_nak, asked_first, due, due_at_end, due_before_end, first_passes, is_finished, is_nak_of, retained_bytes, new_sending, lay_position, waiting_bytes, wants_frames};
 ghost use Rattle.publication_core.specs.Signs.{IsHeartbeatOf, IsSetupOf, heartbeat_flags};
 
@@ -14,7 +12,7 @@ use crate::bytes::Bytes;
 use crate::datagram::Datagram;
 use crate::due::Due;
 use crate::flow::{Flow, position_at};
-use crate::lists::{drop_consumed, lay_into, mark_each, repeat_first};
+use crate::lists::{drop_consumed, is_any_asked, lay_into, mark_each, repeat_first};
 use crate::signs::{heartbeat_at, heartbeat_flags, setup_at};
 use frame_core::{FrameRef, Geometry, Nak, Publication, Setup, StatusMessage};
 use std::alloc::{AllocError, Global};
@@ -35,11 +33,16 @@ pub struct Sender {
     publication: Publication,
     flow: Flow,
     sent: VecDeque<Datagram>,
+    /// Whether one of those that were sent is asked for.
+    is_any_asked: bool,
     waiting: VecDeque<Datagram>,
     spare: Vec<Bytes>,
 }
 
 impl Model for Sender {
+    ghost use Rattle.std.specs.Prelude.{◌≡◌};
+    ghost use Rattle.std.specs.List.{list_any};
+    ghost use Rattle.publication_core.specs.Datagrams.{is_repeat_asked};
     ghost use Rattle.publication_core.specs.Sending.{Sending};
 
     ghost Value = { Sending };
@@ -51,6 +54,8 @@ impl Model for Sender {
       sent = s.sent.items;
       waiting = s.waiting.items;
     } };
+
+    ghost invariant = { λ s. s.is_any_asked ≡ list_any is_repeat_asked s.sent.items };
 }
 
 impl Sender {
@@ -64,6 +69,7 @@ impl Sender {
             publication,
             flow: Flow::new(position),
             sent: VecDeque::new(alloc),
+            is_any_asked: false,
             waiting: VecDeque::new(alloc),
             spare: Vec::new(alloc),
         }
@@ -88,13 +94,15 @@ impl Sender {
     }
 
     /// Hears a status message. One of another publication, or without a position, changes nothing. Costs a step for
-    /// each datagram that is consumed.
+    /// each datagram that is consumed, and while one is asked for a step for each that is kept.
+    #[tactic(auto, using(crate::proofs::AskedLemmas::asked_unconsumed))]
     pub fn hear(&mut self, now: u64, status: &StatusMessage)
         ensures { self.new ≡ after_hearing now status.now self.old }
     {
         self.flow
             .hear(&self.geometry, &self.publication, now, status);
         drop_consumed(&mut self.sent, &mut self.spare, self.flow.consumed);
+        self.is_any_asked = self.is_any_asked && is_any_asked(&self.sent);
     }
 
     /// Hears a NAK: datagrams in its range are repeated. One of another publication, or without a position, changes
@@ -108,10 +116,11 @@ impl Sender {
         if let Some(from) = position_at(&self.geometry, nak.term_id, nak.term_offset) {
             let to = from + u64::from(nak.length.unsigned_abs());
             mark_each(&mut self.sent, now, from, to);
+            self.is_any_asked = is_any_asked(&self.sent);
         }
     }
 
-    /// What is due. Costs a step for each datagram that is kept; does not allocate.
+    /// What is due. In constant time.
     pub fn due(&self, now: u64) -> Due
         ensures { result ≡ due now self.now }
     {
@@ -144,7 +153,7 @@ impl Sender {
         if self.flow.is_setup_due(now) {
             return Due::Setup;
         }
-        if self.is_repeat_asked() {
+        if self.is_any_asked {
             return Due::Again;
         }
         if self.may_send() {
@@ -172,18 +181,21 @@ impl Sender {
         let index = self.sent.len();
         if let Some(first) = self.waiting.pop_front() {
             self.flow.note_datagram(now, first.end);
+            self.is_any_asked = self.is_any_asked || first.is_repeat_asked;
             self.sent.push_back_reserved(first);
         }
         Ok(Some(index))
     }
 
     /// Repeats the first datagram that is asked for: its index among those that were sent. None if none is, and
-    /// nothing changes then. Costs a step for each datagram before it; does not allocate.
+    /// nothing changes then. Costs a step for each datagram that is kept; does not allocate.
     pub fn again(&mut self, now: u64) -> Option<usize>
         ensures first { result ≡ asked_first self.old }
         ensures repeated { self.new ≡ after_again now self.old }
     {
-        repeat_first(&mut self.sent, now)
+        let index = repeat_first(&mut self.sent, now);
+        self.is_any_asked = is_any_asked(&self.sent);
+        index
     }
 
     /// The datagram of an index, among those that were sent and are not consumed.
@@ -278,13 +290,6 @@ impl Sender {
         ensures { result ≡ wants_frames self.now }
     {
         self.waiting_bytes() < WAITING && self.lay_position() < self.flow.limit
-    }
-
-    /// Whether a datagram is asked for.
-    fn is_repeat_asked(&self) -> bool
-        ensures { result ≡ list_any is_repeat_asked self.now.sent }
-    {
-        self.sent.iter().any(|datagram| datagram.is_repeat_asked)
     }
 
     /// Whether the first datagram that waits may go.

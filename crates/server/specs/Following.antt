@@ -1,5 +1,5 @@
 -- What a follower is sent: docs/PROTOCOL.md, "Following a recording".
-use Rattle.std.specs.Prelude.{◌≡◌, ◌⊎◌, ◌++◌, ℕ, ℤ, Bool, false, IsTrue, List, [], ◌∷◌, Option, Some, None, unsigned_abs}
+use Rattle.std.specs.Prelude.{◌≡◌, ◌⊎◌, ◌++◌, ℕ, ℤ, Bool, false, IsTrue, List, [], ◌∷◌, Option, unsigned_abs}
 use Rattle.std.specs.Io.KnownBytes.{Appends}
 use Rattle.disk_core.specs.DiskImage.{DiskImage, reads}
 use Rattle.disk_core.specs.Life.{IsQuiet, Life}

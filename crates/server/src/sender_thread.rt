@@ -19,24 +19,12 @@ const AT_ONCE: u64 = 32;
 const HEARD_AT_ONCE: u64 = 1_024;
 /// Bytes of a datagram that are looked at: those of a status message or a NAK, and more.
 const LONGEST: usize = 2_048;
-/// Status messages and NAKs that wait at most for their sendings.
-const MOST_WAITING: usize = 1_024;
 /// Milliseconds that the thread sleeps at once at most if there is a sending.
 const NAP: u64 = 10;
 /// The same if there is none.
 const REST: u64 = 100;
 /// Milliseconds after which it is reported that no receiver answers.
 const SILENCE: u64 = 5_000;
-
-/// What a receiver has answered, for the sending of a number at a place.
-#[derive(Clone, Copy)]
-struct Heard {
-    place: usize,
-    number: u64,
-    /// When it came, in milliseconds.
-    at: u64,
-    feedback: Feedback,
-}
 
 /// A socket as the end that datagrams of sendings go out by. One that can't be sent may be lost on the way too.
 #[derive(Drop)]
@@ -64,7 +52,6 @@ pub(crate) fn send_all<R: Wait + Clock, T: Reporter>(rt: &R, with: &Connections<
         return;
     };
     let mut buffer = [0; LONGEST];
-    let mut inbox = Vec::new(with.alloc);
     let mut end = UdpSendEnd {
         socket,
         datagrams: 0,
@@ -75,12 +62,12 @@ pub(crate) fn send_all<R: Wait + Clock, T: Reporter>(rt: &R, with: &Connections<
         if with.has_ended() {
             return;
         }
-        let has_heard = hear_waiting(rt, with, socket, &mut buffer, &mut inbox);
-        let (has_sent, nap) = send_round(rt, with, &mut end, &mut inbox);
+        let has_heard = hear_waiting(rt, with, socket, &mut buffer);
+        let (has_sent, nap) = send_round(rt, with, &mut end);
         note_counts(with, &mut end);
         let is_idle = !has_heard && !has_sent;
         if is_idle && is_quiet {
-            sleep(rt, with, socket, &mut buffer, &mut inbox, nap);
+            sleep(rt, with, socket, &mut buffer, nap);
         }
         is_quiet = is_idle && !is_quiet;
         with.sendings.set_asleep(is_quiet);
@@ -104,14 +91,13 @@ fn sleep<R: Wait + Clock, T: Reporter>(
     with: &Connections<T>,
     socket: &UdpSocket,
     buffer: &mut [u8; LONGEST],
-    inbox: &mut Vec<Heard>,
     nap: u64,
 ) {
     let nap = Duration::from_millis(nap);
     if socket.set_read_timeout(Some(nap)).is_err() {
         return;
     }
-    let _ = hear(rt, with, socket, buffer, inbox);
+    let _ = hear(rt, with, socket, buffer);
 }
 
 /// Hears the datagrams that wait, but no more than 1,024. Whether there was one.
@@ -120,12 +106,11 @@ fn hear_waiting<R: Wait + Clock, T: Reporter>(
     with: &Connections<T>,
     socket: &UdpSocket,
     buffer: &mut [u8; LONGEST],
-    inbox: &mut Vec<Heard>,
 ) -> bool {
     if socket.set_nonblocking(true).is_err() {
         return false;
     }
-    let has_heard = hear_some(rt, with, socket, buffer, inbox);
+    let has_heard = hear_some(rt, with, socket, buffer);
     // A send waits for room in the system's buffer. Else datagrams would be lost there.
     let _ = socket.set_nonblocking(false).is_ok();
     has_heard
@@ -137,10 +122,9 @@ fn hear_some<R: Wait + Clock, T: Reporter>(
     with: &Connections<T>,
     socket: &UdpSocket,
     buffer: &mut [u8; LONGEST],
-    inbox: &mut Vec<Heard>,
 ) -> bool {
     for count in 0..HEARD_AT_ONCE {
-        if !hear(rt, with, socket, buffer, inbox) {
+        if !hear(rt, with, socket, buffer) {
             return count > 0;
         }
     }
@@ -153,25 +137,23 @@ fn hear<R: Wait + Clock, T: Reporter>(
     with: &Connections<T>,
     socket: &UdpSocket,
     buffer: &mut [u8; LONGEST],
-    inbox: &mut Vec<Heard>,
 ) -> bool {
     match socket.recv_from(buffer.as_mut_slice()) {
         Ok((0, _)) => true,
         Ok((count, from)) => {
-            note_feedback(rt, with, &buffer[..count], &from, inbox);
+            hear_feedback(rt, with, &buffer[..count], &from);
             true
         }
         Err(_) => false,
     }
 }
 
-/// Notes what a receiver answers, if it counts for a sending.
-fn note_feedback<R: Wait + Clock, T: Reporter>(
+/// A sending hears what its receiver answers, if it counts for one.
+fn hear_feedback<R: Wait + Clock, T: Reporter>(
     rt: &R,
     with: &Connections<T>,
     datagram: &[u8],
     from: &SocketAddr,
-    inbox: &mut Vec<Heard>,
 ) {
     let counts = &with.shared.sends.counts;
     let Some(feedback) = feedback_of(datagram) else {
@@ -190,33 +172,26 @@ fn note_feedback<R: Wait + Clock, T: Reporter>(
         Feedback::Status(_) => counts.status_messages.add(1),
         Feedback::Repeat(_) => counts.naks.add(1),
     }
-    if inbox.len() < MOST_WAITING {
-        let heard = Heard {
-            place: known.place,
-            number: known.number,
-            at: with.sendings.now(rt),
-            feedback,
-        };
-        let _ = inbox.push(heard);
+    if let Some(place) = with.sendings.place(known.place) {
+        pass_on(rt, with, place, known.number, &feedback);
     }
 }
 
-/// A sending hears what its receiver has answered.
-fn hear_all(inbox: &mut Vec<Heard>, place: usize, sending: &mut ActiveSending) {
-    if inbox.is_empty() {
-        return;
-    }
-    for heard in inbox.as_slice() {
-        if heard.place == place && heard.number == sending.number {
-            sending.publishing.hear(heard.at, &heard.feedback);
+/// The sending of a number hears what its receiver answers, if it is at a place still.
+fn pass_on<R: Wait + Clock, T>(
+    rt: &R,
+    with: &Connections<T>,
+    place: &SendPlace,
+    number: u64,
+    feedback: &Feedback,
+) {
+    let now = with.sendings.now(rt);
+    let mut sending = place.lock(rt);
+    if let Some(sending) = &mut *sending {
+        if sending.number == number {
+            sending.publishing.hear(now, feedback);
         }
     }
-    forget_all(inbox, place);
-}
-
-/// Drops what waits for a place without a sending.
-fn forget_all(inbox: &mut Vec<Heard>, place: usize) {
-    inbox.retain(|heard| heard.place != place);
 }
 
 /// Sends what is due of each sending, but no more than 32 datagrams of each. Whether there was any, and for how many milliseconds
@@ -225,16 +200,13 @@ fn send_round<R: Wait + Clock, T: Reporter>(
     rt: &R,
     with: &Connections<T>,
     end: &mut UdpSendEnd<'_>,
-    inbox: &mut Vec<Heard>,
 ) -> (bool, u64) {
     let mut has_sent = false;
     let mut nap = REST;
-    for (index, place) in with.sendings.places().iter().enumerate() {
+    for place in with.sendings.places() {
         if place.is_taken() {
-            has_sent = send_at(rt, with, index, place, end, inbox) || has_sent;
+            has_sent = send_at(rt, with, place, end) || has_sent;
             nap = NAP;
-        } else if !inbox.is_empty() {
-            forget_all(inbox, index);
         }
     }
     (has_sent, nap)
@@ -244,17 +216,14 @@ fn send_round<R: Wait + Clock, T: Reporter>(
 fn send_at<R: Wait + Clock, T: Reporter>(
     rt: &R,
     with: &Connections<T>,
-    index: usize,
     place: &SendPlace,
     end: &mut UdpSendEnd<'_>,
-    inbox: &mut Vec<Heard>,
 ) -> bool {
     let now = with.sendings.now(rt);
     let mut sending = place.lock(rt);
     let Some(sending) = &mut *sending else {
         return false;
     };
-    hear_all(inbox, index, sending);
     if sending.over.is_some() {
         return false;
     }

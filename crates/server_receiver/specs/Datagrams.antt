@@ -1,5 +1,5 @@
 -- What becomes of a datagram, and what is asked for then: docs/PROTOCOL.md, "Stock"; docs/SERVING.md, "Who can send".
-use Rattle.std.specs.Prelude.{◌≡◌, ◌≢◌, ◌<◌, ◌⊎◌, ◌&&◌, ◌-ℤ◌, ℕ, pos, int_lt, if◌then◌else◌, Bool, true, false, List, [], ◌∷◌, ◌++◌, length, nat_lt, slice_get, slice_index_or, slice_set, Option, Some, None, is_none, is_some, IsSomeAnd, Result, Ok, Err}
+use Rattle.std.specs.Prelude.{◌≡◌, ◌≢◌, ◌<◌, ◌⊎◌, ◌&&◌, ◌-ℤ◌, ℕ, pos, int_lt, Bool, true, false, List, [], ◌∷◌, ◌++◌, length, nat_lt, slice_get, slice_index_or, slice_set, Option, Some, None, is_none, is_some, IsSomeAnd, Result, Ok, Err}
 use Rattle.std.specs.List.{position}
 use Rattle.std.specs.Ordering.{int_eq}
 use Rattle.frame_core.specs.declared.block.Block.{Block}

@@ -1,5 +1,5 @@
 -- The networks that datagrams are taken from: docs/SERVING.md, "Who can send".
-use Rattle.std.specs.Prelude.{◌||◌, ◌==◌, ◌-◌, ◌/◌, ◌^◌, ℕ, min, not, Bool, false, List, Option, None, Some, is_some}
+use Rattle.std.specs.Prelude.{◌||◌, ◌==◌, ◌-◌, ◌/◌, ◌^◌, min, not, Bool, false, List, Option, None, Some, is_some}
 use Rattle.std.specs.List.{list_any}
 use Rattle.std.specs.Net.Addr.{ipv4_bits}
 use Rattle.std.specs.Net.Socket.{v4_ip}

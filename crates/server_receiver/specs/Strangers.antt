@@ -1,5 +1,5 @@
 -- Whose frames an image takes: docs/PROTOCOL.md, "Whose frames an image takes".
-use Rattle.std.specs.Prelude.{◌≡◌, ◌⊎◌, ◌&&◌, ℕ, nat_le, not, Bool, false, if◌then◌else◌, List, length, slice_get, Option, Some, None}
+use Rattle.std.specs.Prelude.{◌≡◌, ◌⊎◌, ◌&&◌, ℕ, nat_le, not, Bool, false, if◌then◌else◌, List, length, Option, Some, None}
 use Rattle.std.specs.Ordering.{int_eq}
 use Rattle.std.specs.declared.net.socket_addr.SocketAddr.{SocketAddr}
 use Rattle.frame_core.specs.declared.block.Publication.{Publication}
@@ -8,7 +8,7 @@ use Rattle.frame_core.specs.declared.setup.Setup.{Setup}
 use Rattle.frame_core.specs.FrameEncoding.{i32_at}
 use Rattle.frame_core.specs.Setup.{HasNoSetup, IsSetup}
 use Rattle.image_core.specs.Received.{Received}
-use Rattle.server_receiver.specs.Datagrams.{received_at, image_with}
+use Rattle.server_receiver.specs.Datagrams.{image_with}
 use Rattle.server_receiver.specs.Senders.{is_silent}
 use Rattle.server_receiver.specs.declared.senders.ImageSender.{ImageSender}
 use Rattle.server_receiver.specs.declared.strangers.Provenance.{Provenance}

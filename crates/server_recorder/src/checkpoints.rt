@@ -16,7 +16,7 @@ use frame_core::Refusal;
 use server_state::{Reporter, Shared, Stopwatch};
 use std::rt::Clock;
 use std::sync::Wait;
-use tool_core::{CheckpointOutcome, is_checkpoint_due};
+use tool_core::CheckpointOutcome;
 
 /// Milliseconds after which a checkpoint of a full history is tried again.
 const SECOND: u64 = 1_000;
@@ -71,17 +71,10 @@ fn make<D: Disk, A: Naming, R: Wait, T: Reporter>(
 pub fn is_begun<T: Reporter>(shared: &Shared<T>, standing: &Standing) -> bool
     ensures { IsTrue result → is_checkpoint_wanted standing.now ≡ true }
 {
-    is_checkpoint_wanted(standing)
+    !standing.is_broken
         && shared
             .checkpointing
             .begins(standing.counted, standing.active, standing.limit)
-}
-
-/// Whether a checkpoint of an archive that stands so is due, and no write of it has failed.
-fn is_checkpoint_wanted(standing: &Standing) -> bool
-    ensures { result ≡ is_checkpoint_wanted standing.now }
-{
-    !standing.is_broken && is_checkpoint_due(standing.counted, standing.active, standing.limit)
 }
 
 /// Whether an entry of an archive that stands so counts, or its bank is of version 1.

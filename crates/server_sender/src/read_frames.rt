@@ -1,21 +1,23 @@
 //! Frames of a recording on their way into a publication. docs/PROTOCOL.md, "Publications of recordings".
 
-ghost use Rattle.std.specs.Prelude.{◌≡◌, ◌==◌, [], drop, length};
+ghost use Rattle.std.specs.Prelude.{◌≡◌, ◌==◌, [], drop, length, IfOk};
 ghost use Rattle.std.specs.Slice.{IsItemAt};
+ghost use Rattle.frame_core.specs.FrameEncoding.{frame_of};
 
 use archive_model::PolledFrame;
-use frame_core::FrameRef;
+use frame_core::{Frame, FrameRef, Items};
 use replay_core::FrameTaker;
 use std::alloc::{AllocError, Global};
 use std::collections::VecDeque;
 use std::marker::Model;
 
 /// Copies of frames that were read and are not laid yet, in their order, each with where it begins. To a contract they are the list
-/// of them.
+/// of them. The memory of dropped ones is used again.
 #[derive(Drop)]
 pub struct ReadFrames {
     alloc: Global,
     frames: VecDeque<PolledFrame>,
+    spare: Vec<Vec<u8>>,
 }
 
 impl Model for ReadFrames {
@@ -35,6 +37,7 @@ impl ReadFrames {
         ReadFrames {
             alloc,
             frames: VecDeque::new(alloc),
+            spare: Vec::new(alloc),
         }
     }
 
@@ -45,11 +48,13 @@ impl ReadFrames {
         self.frames.is_empty()
     }
 
-    /// Drops them, and keeps the list's memory.
+    /// Drops them, and keeps their memory.
     pub fn clear(&mut self)
         ensures { self.new ≡ [] }
     {
-        self.frames.clear();
+        while !self.is_empty() {
+            self.drop_first();
+        }
     }
 
     /// The first one.
@@ -59,11 +64,24 @@ impl ReadFrames {
         self.frames.front()
     }
 
-    /// Drops the first one.
+    /// Drops the first one, and keeps its memory.
     pub(crate) fn drop_first(&mut self)
         ensures { self.new ≡ drop 1 self.old }
     {
-        let _ = self.frames.pop_front();
+        if let Some(first) = self.frames.pop_front() {
+            let _ = self.spare.push(first.frame.payload.into_vec());
+        }
+    }
+
+    /// A copy of a frame, with spare memory if there is some. AllocError if there is none.
+    fn copy(&mut self, frame: &FrameRef<'_>) -> Result<Frame, AllocError>
+        ensures copy { IfOk result (λ copy. copy ≡ frame_of frame.now) }
+        ensures same { self.new ≡ self.old }
+    {
+        let mut payload = self.spare.pop().unwrap_or(Vec::new(self.alloc));
+        payload.clear();
+        payload.extend_from_slice(frame.payload)?;
+        Ok(with_payload(frame, payload))
     }
 }
 
@@ -81,10 +99,25 @@ impl FrameTaker for ReadFrames {
         _header: &[u8],
         frame: &FrameRef<'_>,
     ) -> Result<(), AllocError> {
-        let Ok(frame) = frame.to_frame(self.alloc) else {
-            return Err(AllocError);
-        };
+        let frame = self.copy(frame)?;
         self.frames.push_back(PolledFrame { position, frame })?;
         Ok(())
+    }
+}
+
+/// A frame with a payload of its own.
+fn with_payload(frame: &FrameRef<'_>, payload: Vec<u8>) -> Frame
+    ensures { result ≡ record (frame_of frame.now) { payload = payload.items } }
+{
+    Frame {
+        kind: frame.kind,
+        flags: frame.flags,
+        length: frame.length,
+        term_offset: frame.term_offset,
+        session_id: frame.session_id,
+        stream_id: frame.stream_id,
+        term_id: frame.term_id,
+        reserved: frame.reserved,
+        payload: Items::from_vec(payload),
     }
 }

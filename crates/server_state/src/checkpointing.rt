@@ -1,6 +1,7 @@
 //! When the threads of a server make checkpoints. docs/SERVING.md, "How long a history lasts".
 
-ghost use Rattle.std.specs.Prelude.{◌≡◌, ◌^◌, ◌-◌, min};
+ghost use Rattle.std.specs.Prelude.{◌≡◌, ◌^◌, ◌-◌, min, IsTrue, true};
+ghost use Rattle.tool_core.specs.Checkpoints.{is_checkpoint_due};
 ghost use Rattle.server_state.specs.Checkpointing.{next_try};
 
 use frame_core::Refusal;
@@ -43,8 +44,10 @@ impl Checkpointing {
     }
 
     /// Whether the caller is to make one, of an archive of which so many entries count, so many recordings are active, and so
-    /// many entries may count. Then no other thread is to, until `ended`.
-    pub fn begins(&self, counted: u64, active: u64, limit: u32) -> bool {
+    /// many entries may count: one is due. Then no other thread is to, until `ended`.
+    pub fn begins(&self, counted: u64, active: u64, limit: u32) -> bool
+        ensures { IsTrue result → is_checkpoint_due counted active limit ≡ true }
+    {
         self.is_on
             && is_checkpoint_due(counted, active, limit)
             && self.next.load(Ordering::SeqCst) <= counted
