@@ -1,5 +1,5 @@
 -- Which lines a port of consumers answers: docs/SERVING.md, "Consumers".
-use Rattle.std.specs.Prelude.{◌≡◌, ◌⊎◌, ◌<◌, ◌++◌, ◌||◌, ◌==◌, length, ℕ, Bool, true, false, List, [], Option, Some, None, bytes_eq, codes}
+use Rattle.std.specs.Prelude.{◌≡◌, ◌⊎◌, ◌<◌, ◌++◌, ◌||◌, ◌==◌, length, ℕ, Bool, true, false, List, Option, Some, None, bytes_eq, codes}
 use Rattle.std.specs.List.{before_first, position_or_len}
 
 -- the first word of a line: its bytes before the first blank, or all of them

@@ -11,6 +11,7 @@ use std::alloc::AllocError;
 use std::net::{SocketAddr, UdpSocket};
 use std::rt::Clock;
 use std::sync::Wait;
+use std::thread;
 use std::time::Duration;
 
 /// Datagrams of one sending that go out before another one's.
@@ -25,6 +26,10 @@ const NAP: u64 = 10;
 const REST: u64 = 100;
 /// Milliseconds after which it is reported that no receiver answers.
 const SILENCE: u64 = 5_000;
+/// Datagrams from which on the recorder is busy that came while others went out.
+const BUSY: u64 = 8;
+/// Microseconds for which the thread rests then.
+const BREATH: u64 = 50;
 
 /// A socket as the end that datagrams of sendings go out by. One that can't be sent may be lost on the way too.
 #[derive(Drop)]
@@ -58,6 +63,7 @@ pub(crate) fn send_all<R: Wait + Clock, T: Reporter>(rt: &R, with: &Connections<
         bytes: 0,
     };
     let mut is_quiet = false;
+    let mut received = 0;
     for _ in rt.forever() {
         if with.has_ended() {
             return;
@@ -65,6 +71,9 @@ pub(crate) fn send_all<R: Wait + Clock, T: Reporter>(rt: &R, with: &Connections<
         let has_heard = hear_waiting(rt, with, socket, &mut buffer);
         let (has_sent, nap) = send_round(rt, with, &mut end);
         note_counts(with, &mut end);
+        if has_sent {
+            received = give_way(rt, with, received);
+        }
         let is_idle = !has_heard && !has_sent;
         if is_idle && is_quiet {
             sleep(rt, with, socket, &mut buffer, nap);
@@ -83,6 +92,16 @@ fn note_counts<T>(with: &Connections<T>, end: &mut UdpSendEnd<'_>) {
         end.datagrams = 0;
         end.bytes = 0;
     }
+}
+
+/// Rests for a moment if many datagrams came for the recorder, of which so many had come before: recording comes first. How many
+/// have come.
+fn give_way<R: Wait + Clock, T>(rt: &R, with: &Connections<T>, before: u64) -> u64 {
+    let received = with.shared.counts.all().datagrams;
+    if received.wrapping_sub(before) >= BUSY {
+        thread::sleep(rt, Duration::from_micros(BREATH));
+    }
+    received
 }
 
 /// Sleeps until a datagram comes, for so many milliseconds at most, and hears it.
