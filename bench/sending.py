@@ -6,7 +6,7 @@ Usage: bench/sending.py [--frames N] [--runs N] [program], on the file system of
 Frames of 1,408 bytes go to the same receiver (subscriber.rs) over UDP of this machine, in turn:
 - from a recording, by `send`;
 - from `sender.rs --flow-control`.
-Then a stream is recorded as fast as it goes, alone, while one sending follows its recording, and while four do.
+Then a stream is recorded as fast as it goes, in turn alone, while one sending follows its recording, and while four do.
 """
 import argparse
 import socket
@@ -117,11 +117,10 @@ def main() -> int:
         ratio = statistics.median(one / other for one, other in pairs)
         print(f"a sending has {ratio:.2f} of the sender's rate (goal {OF_SENDER})")
         server.quit()
-        alone, one, four = (
-            statistics.median(beside(tool, sender, binary, count, frames) for _ in range(asked.runs)) for count in (0, 1, 4)
-        )
-        print(f"a recorder has {one / alone:.2f} of its rate next to one sending (goal {BESIDE_ONE}), {four / alone:.2f} next to four (goal {BESIDE_FOUR})")
-        if ratio < OF_SENDER or one / alone < BESIDE_ONE or four / alone < BESIDE_FOUR:
+        runs = [[beside(tool, sender, binary, count, frames) for count in (0, 1, 4)] for _ in range(asked.runs)]
+        one, four = (statistics.median(it[at] / it[0] for it in runs) for at in (1, 2))
+        print(f"a recorder has {one:.2f} of its rate next to one sending (goal {BESIDE_ONE}), {four:.2f} next to four (goal {BESIDE_FOUR})")
+        if ratio < OF_SENDER or one < BESIDE_ONE or four < BESIDE_FOUR:
             raise Fault("a goal is missed")
     return 0
 
