@@ -50,10 +50,11 @@ fn opened(abort: &impl Abort, rt: HostRuntime, path: &str) -> HostDisk {
     }
 }
 
-// A call on a disk.
+// A call on a disk. A reading is of the segment, into a buffer of eight sevens, in which these bytes stand then.
 #[derive(Clone, Copy)]
 enum Call {
     Length(FileId),
+    Read(u64, &'static [u8]),
     Write(FileId, u64, &'static [u8]),
     Cut(FileId, u64),
     Remove(FileId),
@@ -62,7 +63,7 @@ enum Call {
     Faults,
 }
 
-// A call and its answer: a length, or how many files or faults there are; 0 where it tells nothing.
+// A call and its answer: a length, or how many bytes, files or faults there are; 0 where it tells nothing.
 type Row = (Call, Result<u64, ListFault>);
 
 const DONE: Result<u64, ListFault> = Ok(0);
@@ -87,10 +88,19 @@ fn listed(disk: &mut HostDisk) -> Result<u64, ListFault> {
     Ok(disk.list()?.len() as u64)
 }
 
+/// How many bytes of the segment are read at an offset; none such if others stand in the buffer then.
+fn read(disk: &mut HostDisk, at: u64, wanted: &[u8]) -> Result<u64, Fault> {
+    let mut buffer = [7u8; 8];
+    let count = disk.read_at(SEGMENT, at, &mut buffer)?;
+    let is_wanted = buffer.as_slice() == wanted;
+    Ok(if is_wanted { count as u64 } else { 9 })
+}
+
 /// What a disk answers to a call.
 fn answer(disk: &mut HostDisk, call: Call) -> Result<u64, ListFault> {
     match call {
         Call::Length(file) => told(disk.len(file)),
+        Call::Read(at, wanted) => told(read(disk, at, wanted)),
         Call::Write(file, at, bytes) => told_done(disk.write_at(file, at, bytes)),
         Call::Cut(file, length) => told_done(disk.cut(file, length)),
         Call::Remove(file) => told_done(disk.remove(file)),
@@ -142,35 +152,18 @@ fn play_around(
     play_both(abort, rt, &mut disk, in_the_way.as_str(), before, after)
 }
 
-/// How many bytes of the segment are read at an offset, and what stands in the buffer then, which had sevens.
-fn read(disk: &mut HostDisk, at: u64) -> Result<(usize, [u8; 8]), Fault> {
-    let mut buffer = [7u8; 8];
-    let count = disk.read_at(SEGMENT, at, &mut buffer)?;
-    Ok((count, buffer))
-}
+const WRITTEN: [Row; 4] = [
+    (Call::Length(SEGMENT), Ok(0)),
+    (Call::Read(0, &[7; 8]), Ok(0)),
+    (Call::Write(SEGMENT, 4, b"abcd"), DONE),
+    (Call::Sync(SEGMENT), DONE),
+];
 
-fn check_written(abort: &impl Abort, rt: HostRuntime, path: &str) {
-    let mut disk = opened(abort, rt, path);
-    play(abort, &mut disk, &[(Call::Length(SEGMENT), Ok(0))]);
-    assert!(abort; read(&mut disk, 0) == Ok((0, [7; 8])));
-    play(
-        abort,
-        &mut disk,
-        &[
-            (Call::Write(SEGMENT, 4, b"abcd"), DONE),
-            (Call::Sync(SEGMENT), DONE),
-        ],
-    );
-}
-
-fn check_again(abort: &impl Abort, rt: HostRuntime, path: &str) {
-    let mut again = opened(abort, rt, path);
-    play(abort, &mut again, &WRITTEN);
-    assert!(abort; read(&mut again, 2) == Ok((6, *b"\0\0abcd\x07\x07")));
-    play(abort, &mut again, &NO_FAULTS);
-}
-
-const WRITTEN: [Row; 1] = [(Call::Length(SEGMENT), Ok(8))];
+const OPENED_AGAIN: [Row; 3] = [
+    (Call::Length(SEGMENT), Ok(8)),
+    (Call::Read(2, b"\0\0abcd\x07\x07"), Ok(6)),
+    (Call::Faults, Ok(0)),
+];
 
 const NO_FAULTS: [Row; 1] = [(Call::Faults, Ok(0))];
 
@@ -178,8 +171,8 @@ const NO_FAULTS: [Row; 1] = [(Call::Faults, Ok(0))];
 #[test]
 fn what_is_written_is_read_when_opened_again(rt: HostRuntime) -> Result<(), Fail> {
     let path = scratch(rt, "written")?;
-    check_written(&rt, rt, path.as_str());
-    check_again(&rt, rt, path.as_str());
+    play_in(&rt, rt, path.as_str(), &WRITTEN);
+    play_in(&rt, rt, path.as_str(), &OPENED_AGAIN);
     remove(rt, path.as_str())
 }
 
@@ -204,12 +197,21 @@ const CUTS: [Row; 13] = [
     (Call::Length(SEGMENT), Ok(0)),
 ];
 
-fn check_cuts(abort: &impl Abort, rt: HostRuntime, path: &str) -> Result<(), Fail> {
-    let mut disk = opened(abort, rt, path);
-    play(abort, &mut disk, &CUTS);
+fn check_cuts(
+    abort: &impl Abort,
+    rt: HostRuntime,
+    path: &str,
+    disk: &mut HostDisk,
+) -> Result<(), Fail> {
+    play(abort, disk, &CUTS);
     assert!(abort; !is_there(rt, path, "3-131072.rec")?);
-    play(abort, &mut disk, &NO_FAULTS);
+    play(abort, disk, &NO_FAULTS);
     Ok(())
+}
+
+fn check_cuts_in(abort: &impl Abort, rt: HostRuntime, path: &str) -> Result<(), Fail> {
+    let mut disk = opened(abort, rt, path);
+    check_cuts(abort, rt, path, &mut disk)
 }
 
 /// A cut shortens a file and never lengthens it, a removed file is gone from the folder, and a missing file is cut and
@@ -217,7 +219,7 @@ fn check_cuts(abort: &impl Abort, rt: HostRuntime, path: &str) -> Result<(), Fai
 #[test]
 fn cuts_and_removes(rt: HostRuntime) -> Result<(), Fail> {
     let path = scratch(rt, "cut")?;
-    check_cuts(&rt, rt, path.as_str())?;
+    check_cuts_in(&rt, rt, path.as_str())?;
     remove(rt, path.as_str())
 }
 
@@ -230,18 +232,24 @@ fn lists(disk: &mut HostDisk, wanted: &[FileId]) -> Result<bool, ListFault> {
     Ok(disk.list()?.as_slice() == wanted)
 }
 
+const LATER: FileId = FileId::Segment {
+    recording: 10,
+    base: 0,
+};
+
+const OUT_OF_ORDER: [Row; 4] = [
+    (Call::Write(LATER, 0, b"x"), DONE),
+    (Call::Write(SEGMENT, 0, b"x"), DONE),
+    (Call::Write(FileId::BankB, 0, b"x"), DONE),
+    (Call::Write(FileId::BankA, 0, b"x"), DONE),
+];
+
 /// Writes some files out of order, which are listed in order.
-fn check_listed(abort: &impl Abort, rt: HostRuntime, path: &str) -> Result<(), Fail> {
-    let later = FileId::Segment {
-        recording: 10,
-        base: 0,
-    };
+fn check_listed(abort: &impl Abort, rt: HostRuntime, path: &str) {
     let mut disk = opened(abort, rt, path);
-    for file in [later, SEGMENT, FileId::BankB, FileId::BankA] {
-        assert!(abort; answer(&mut disk, Call::Write(file, 0, b"x")) == DONE);
-    }
-    assert!(abort; lists(&mut disk, &[FileId::BankA, FileId::BankB, SEGMENT, later])?);
-    Ok(())
+    play(abort, &mut disk, &OUT_OF_ORDER);
+    let files = [FileId::BankA, FileId::BankB, SEGMENT, LATER];
+    assert!(abort; lists(&mut disk, &files) == Ok(true));
 }
 
 /// Writes files of names that are no file's.
@@ -270,7 +278,7 @@ fn put_others(rt: HostRuntime, path: &str) -> Result<(), Fail> {
 fn files_are_listed_in_order_and_other_names_ignored(rt: HostRuntime) -> Result<(), Fail> {
     let path = scratch(rt, "listed")?;
     put_others(rt, path.as_str())?;
-    check_listed(&rt, rt, path.as_str())?;
+    check_listed(&rt, rt, path.as_str());
     remove(rt, path.as_str())
 }
 
@@ -406,20 +414,29 @@ fn tells(alloc: Global, disk: &HostDisk, text: &str) -> Result<bool, Fail> {
 
 const UNWRITTEN: [Row; 1] = [(Call::Write(SEGMENT, 0, b"x"), FAULT)];
 
-fn check_last_fault(abort: &impl Abort, rt: HostRuntime, path: &str) -> Result<(), Fail> {
-    let mut disk = opened(abort, rt, path);
+fn check_last_fault(
+    abort: &impl Abort,
+    rt: HostRuntime,
+    path: &str,
+    disk: &mut HostDisk,
+) -> Result<(), Fail> {
     assert!(abort; disk.last_fault().is_none());
     make_folder(rt, path, "3-131072.rec")?;
-    play(abort, &mut disk, &UNWRITTEN);
-    assert!(abort; tells(rt.alloc(), &disk, "write 3-131072.rec: unsupported")?);
+    play(abort, disk, &UNWRITTEN);
+    assert!(abort; tells(rt.alloc(), disk, "write 3-131072.rec: unsupported")?);
     Ok(())
+}
+
+fn check_last_fault_in(abort: &impl Abort, rt: HostRuntime, path: &str) -> Result<(), Fail> {
+    let mut disk = opened(abort, rt, path);
+    check_last_fault(abort, rt, path, &mut disk)
 }
 
 /// The last fault names its call, its file and the system's reason.
 #[test]
 fn the_last_fault_is_kept(rt: HostRuntime) -> Result<(), Fail> {
     let path = scratch(rt, "fault")?;
-    check_last_fault(&rt, rt, path.as_str())?;
+    check_last_fault_in(&rt, rt, path.as_str())?;
     remove(rt, path.as_str())
 }
 
@@ -427,12 +444,16 @@ const fn segment(recording: i64) -> FileId {
     FileId::Segment { recording, base: 0 }
 }
 
-fn check_room(abort: &impl Abort, rt: HostRuntime, path: &str) {
-    let mut disk = opened(abort, rt, path);
+/// Writes 128 files and syncs none.
+fn open_files(abort: &impl Abort, disk: &mut HostDisk) {
     for recording in 0..128 {
-        assert!(abort; answer(&mut disk, Call::Write(segment(recording), 0, b"x")) == DONE);
+        assert!(abort; answer(disk, Call::Write(segment(recording), 0, b"x")) == DONE);
     }
-    for (call, wanted) in [
+}
+
+/// Opens further ones.
+fn open_more(abort: &impl Abort, disk: &mut HostDisk) {
+    let rows = [
         (Call::Length(segment(200)), Ok(0)),
         (Call::Write(segment(128), 0, b"x"), FAULT),
         (Call::Sync(segment(5)), DONE),
@@ -440,9 +461,14 @@ fn check_room(abort: &impl Abort, rt: HostRuntime, path: &str) {
         (Call::Length(segment(5)), FAULT),
         (Call::Sync(segment(129)), DONE),
         (Call::Length(segment(5)), Ok(1)),
-    ] {
-        assert!(abort; answer(&mut disk, call) == wanted);
-    }
+    ];
+    play(abort, disk, &rows);
+}
+
+fn check_room(abort: &impl Abort, rt: HostRuntime, path: &str) {
+    let mut disk = opened(abort, rt, path);
+    open_files(abort, &mut disk);
+    open_more(abort, &mut disk);
 }
 
 /// At most 128 files are open; an unsynced one is not closed to open another, whose write fails instead.
