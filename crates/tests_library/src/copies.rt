@@ -8,7 +8,6 @@ use image_core::BoundedImage;
 use publication_core::{Due, Sender};
 use std::alloc::{AllocError, Global};
 use std::collections::VecDeque;
-use std::test::Fail;
 
 /// Steps, each of one millisecond.
 const STEPS: u64 = 10_000;
@@ -136,25 +135,25 @@ struct Receiver {
 fn receive(alloc: Global, receiver: &mut Receiver, now: u64, bytes: &[u8]) -> Result<(), Refusal> {
     receiver.feedback.hear(now);
     match Setup::decode(bytes) {
-        Ok(setup) => join(alloc, receiver, &setup),
-        Err(_) => take_in(alloc, receiver, bytes),
+        Ok(setup) => join(alloc, &mut receiver.image, &setup),
+        Err(_) => take_in(alloc, &mut receiver.image, bytes),
     }
 }
 
 /// Makes the image if there is none.
-fn join(alloc: Global, receiver: &mut Receiver, setup: &Setup) -> Result<(), Refusal> {
-    if receiver.image.is_none() {
-        receiver.image = Some(BoundedImage::from_setup(alloc, setup)?);
+fn join(alloc: Global, image: &mut Option<BoundedImage>, setup: &Setup) -> Result<(), Refusal> {
+    if image.is_none() {
+        *image = Some(BoundedImage::from_setup(alloc, setup)?);
     }
     Ok(())
 }
 
 /// Offers frames to the image, if there is one.
-fn take_in(alloc: Global, receiver: &mut Receiver, bytes: &[u8]) -> Result<(), Refusal> {
-    if let Some(image) = &mut receiver.image {
-        offer(alloc, image, bytes)?;
+fn take_in(alloc: Global, image: &mut Option<BoundedImage>, bytes: &[u8]) -> Result<(), Refusal> {
+    match image {
+        Some(image) => offer(alloc, image, bytes).and(Ok(())),
+        None => Ok(()),
     }
-    Ok(())
 }
 
 /// Where the copy stands after a block. None if one of its frames is not the stream's.
@@ -168,7 +167,7 @@ fn copied(block: &Block, mut point: Point) -> Option<Point> {
     Some(point)
 }
 
-/// Takes a block of the image, if there is one: where the copy stands then.
+/// Takes a block of an image, if there is one: where the copy stands then.
 fn take(image: &mut BoundedImage, point: Point) -> Result<Option<Point>, Refusal> {
     match image.take_block()? {
         Some(block) => Ok(copied(&block, point)),
@@ -176,13 +175,14 @@ fn take(image: &mut BoundedImage, point: Point) -> Result<Option<Point>, Refusal
     }
 }
 
-/// Takes blocks for the copy.
-fn copy(receiver: &mut Receiver) -> Result<(), Fail> {
-    if let Some(image) = &mut receiver.image {
-        let point = take(image, receiver.copied)?;
-        receiver.copied = point.ok_or("another frame")?;
-    }
-    Ok(())
+/// Takes a block for the copy, if there is an image: whether its frames are the stream's.
+fn copy(receiver: &mut Receiver) -> Result<bool, Refusal> {
+    let point = match &mut receiver.image {
+        Some(image) => take(image, receiver.copied)?,
+        None => Some(receiver.copied),
+    };
+    receiver.copied = point.unwrap_or(receiver.copied);
+    Ok(point.is_some())
 }
 
 /// The status message that is due of a receiver.
@@ -256,8 +256,8 @@ fn send_datagram(sender: &Sender, line: &mut Line, index: Option<usize>) -> Resu
     }
 }
 
-/// What is due goes out.
-fn send_due(sender: &mut Sender, line: &mut Line, now: u64) -> Result<(), Fail> {
+/// What is due goes out. Whether the sending goes on.
+fn send_due(sender: &mut Sender, line: &mut Line, now: u64) -> Result<bool, AllocError> {
     match sender.due(now) {
         Due::Setup => send_setup(sender, line, now)?,
         Due::Heartbeat => send_heartbeat(sender, line, now)?,
@@ -269,10 +269,20 @@ fn send_due(sender: &mut Sender, line: &mut Line, now: u64) -> Result<(), Fail> 
             let index = sender.again(now);
             send_datagram(sender, line, index)?;
         }
-        Due::Gone | Due::Refused => return Err("the sending ended".into()),
+        Due::Gone | Due::Refused => return Ok(false),
         Due::Done | Due::Nothing => {}
     }
-    Ok(())
+    Ok(true)
+}
+
+/// Some datagrams go out. Whether the sending goes on.
+fn send_some(sender: &mut Sender, line: &mut Line, now: u64) -> Result<bool, AllocError> {
+    for _ in 0..TOGETHER {
+        if !send_due(sender, line, now)? {
+            return Ok(false);
+        }
+    }
+    Ok(true)
 }
 
 /// Lays frames of the stream while more are wanted: where the next one begins.
@@ -287,22 +297,25 @@ fn lay_wanted(sender: &mut Sender, mut point: Point) -> Result<Point, AllocError
     Ok(point)
 }
 
-/// One step: frames are laid, some datagrams go out, some come, and the receiver answers.
+/// One step: frames are laid, some datagrams go out, some come, and the receiver answers. Where the next frame begins, or none
+/// if the sending ended or another frame was copied.
 fn step(
     sender: &mut Sender,
     line: &mut Line,
     receiver: &mut Receiver,
     point: Point,
     now: u64,
-) -> Result<Point, Fail> {
+) -> Result<Option<Point>, Refusal> {
     let laid = lay_wanted(sender, point)?;
-    for _ in 0..TOGETHER {
-        send_due(sender, line, now)?;
-    }
+    let goes_on = send_some(sender, line, now)?;
     deliver(line, receiver, now)?;
-    copy(receiver)?;
+    let is_copied = copy(receiver)?;
     answer(sender, line, receiver, now);
-    Ok(laid)
+    Ok(if goes_on && is_copied {
+        Some(laid)
+    } else {
+        None
+    })
 }
 
 /// A receiver to which nothing came.
@@ -317,23 +330,43 @@ fn new_receiver() -> Receiver {
     }
 }
 
-/// All steps: where the stream and its copy stand after them.
+/// All steps: where the stream stands after them, or none if one of them found another frame.
 fn run(
     sender: &mut Sender,
     line: &mut Line,
     receiver: &mut Receiver,
-    mut laid: Point,
-) -> Result<Point, Fail> {
+) -> Result<Option<Point>, Refusal> {
+    let mut laid = receiver.copied;
     for now in 0..STEPS {
-        laid = step(sender, line, receiver, laid, now)?;
+        match step(sender, line, receiver, laid, now)? {
+            Some(point) => laid = point,
+            None => return Ok(None),
+        }
     }
-    Ok(laid)
+    Ok(Some(laid))
+}
+
+/// Whether the stream is sent to its end, and its copy ends there too.
+fn is_copied(
+    sender: &mut Sender,
+    line: &mut Line,
+    receiver: &mut Receiver,
+) -> Result<bool, Refusal> {
+    let Some(laid) = run(sender, line, receiver)? else {
+        return Ok(false);
+    };
+    Ok(
+        laid.number == FRAMES
+            && sender.is_finished(laid.position)
+            && receiver.copied.number == FRAMES
+            && receiver.copied.position == laid.position,
+    )
 }
 
 /// A sender and an image over a line that loses, repeats and reorders in both directions make an exact copy of the
 /// stream.
 #[test]
-fn a_stream_is_copied_over_a_bad_line(rt: HostRuntime) -> Result<(), Fail> {
+fn a_stream_is_copied_over_a_bad_line(rt: HostRuntime) {
     let alloc = rt.alloc();
     let mut sender = sender_at(alloc, 0);
     let mut line = Line {
@@ -342,9 +375,5 @@ fn a_stream_is_copied_over_a_bad_line(rt: HostRuntime) -> Result<(), Fail> {
         seed: 1,
     };
     let mut receiver = new_receiver();
-    let begins = receiver.copied;
-    let laid = run(&mut sender, &mut line, &mut receiver, begins)?;
-    assert!(rt; laid.number == FRAMES && sender.is_finished(laid.position));
-    assert!(rt; receiver.copied.number == FRAMES && receiver.copied.position == laid.position);
-    Ok(())
+    assert!(rt; is_copied(&mut sender, &mut line, &mut receiver) == Ok(true));
 }
