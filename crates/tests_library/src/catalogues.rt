@@ -110,9 +110,9 @@ pub(crate) fn answer(alloc: Global, disk: &mut MemoryDisk) -> (&'static str, i64
     }
 }
 
-/// Whether a file has these bytes and no more, of up to 200.
+/// Whether a file has these bytes and no more, of up to 300.
 pub(crate) fn holds(disk: &mut MemoryDisk, file: FileId, bytes: &[u8]) -> Result<bool, Fault> {
-    let mut read = [9; 200];
+    let mut read = [9; 300];
     let count = disk.read_at(file, 0, &mut read)?;
     Ok(read.get(..count) == Some(bytes))
 }
