@@ -3,7 +3,7 @@
 
 use crate::catalogues::{BANK, answer, register_in};
 use crate::images::image;
-use crate::segments::{FIRST, frame_at};
+use crate::segments::{FIRST, is_hello_read};
 use crate::vectors::HELLO_AT_0;
 use disk_core::{Disk, Fault, FileId, MemoryDisk};
 use frame_core::{Geometry, Refusal, block_of, decode_front, frames_of_datagram};
@@ -101,24 +101,24 @@ fn a_settle_past_another_gate_is_not_there(rt: HostRuntime) -> Result<(), Fail> 
     Ok(())
 }
 
-/// Lengths from one to the next row's.
-const LENGTHS: [(u64, u64, (&str, i64)); 4] = [
-    (0, 32, ("NotCatalogue", 0)),
-    (32, 88, ("Damaged", 32)),
-    (88, 108, ("Damaged", 87)),
-    (108, 109, ("A", 2)),
-];
+/// What opening a bank of so many bytes answers.
+fn told_of(length: u64) -> (&'static str, i64) {
+    match length {
+        0..=31 => ("NotCatalogue", 0),
+        32..=87 => ("Damaged", 32),
+        88..=107 => ("Damaged", 87),
+        _ => ("A", 2),
+    }
+}
 
 /// Opening a bank that is cut at any length answers as docs/STORAGE.md says, and changes no file.
 #[test]
 fn an_opening_of_a_cut_bank_syncs_alone(rt: HostRuntime) -> Result<(), Fail> {
-    for (from, to, told) in LENGTHS {
-        for length in from..to {
-            assert!(rt;
-                opening(rt.alloc(), length, 0, 1)? == Some((told, 2)),
-                "{length}"
-            );
-        }
+    for length in 0..=108u64 {
+        assert!(rt;
+            opening(rt.alloc(), length, 0, 1)? == Some((told_of(length), 2)),
+            "{length}"
+        );
     }
     Ok(())
 }
@@ -129,41 +129,23 @@ const GEOMETRY: Geometry = Geometry {
     mtu: 1_408,
 };
 
+const BAD: Refusal = Refusal::BadFrame { offset: 0 };
+
+/// Whether bytes are no frame: in front, as a datagram, as a block and to an image.
+fn are_refused(alloc: Global, image: &mut Image, bytes: &[u8]) -> bool {
+    decode_front(bytes).err() == Some(BAD)
+        && frames_of_datagram(alloc, bytes).err() == Some(BAD)
+        && block_of(alloc, &GEOMETRY, bytes).err() == Some(BAD)
+        && image.insert(bytes).err() == Some(BAD)
+}
+
 /// How many bytes a frame in front takes, of how many frames a datagram and a block are, and how many an image takes in.
-type Read = (
-    Result<usize, Refusal>,
-    Result<usize, Refusal>,
-    Result<usize, Refusal>,
-    Result<usize, Refusal>,
-);
-
-fn used(bytes: &[u8]) -> Result<usize, Refusal> {
+fn read(alloc: Global, image: &mut Image, bytes: &[u8]) -> Result<[usize; 4], Refusal> {
     let (_, used) = decode_front(bytes)?;
-    Ok(used)
+    let sent = frames_of_datagram(alloc, bytes)?.len();
+    let frames = block_of(alloc, &GEOMETRY, bytes)?.frames.len();
+    Ok([used, sent, frames, image.insert(bytes)?.held])
 }
-
-fn frames(alloc: Global, bytes: &[u8]) -> Result<usize, Refusal> {
-    Ok(frames_of_datagram(alloc, bytes)?.len())
-}
-
-fn frames_of_block(alloc: Global, bytes: &[u8]) -> Result<usize, Refusal> {
-    Ok(block_of(alloc, &GEOMETRY, bytes)?.frames.len())
-}
-
-fn held(image: &mut Image, bytes: &[u8]) -> Result<usize, Refusal> {
-    Ok(image.insert(bytes)?.held)
-}
-
-fn read(alloc: Global, image: &mut Image, bytes: &[u8]) -> Read {
-    (
-        used(bytes),
-        frames(alloc, bytes),
-        frames_of_block(alloc, bytes),
-        held(image, bytes),
-    )
-}
-
-const BAD: Result<usize, Refusal> = Err(Refusal::BadFrame { offset: 0 });
 
 /// A frame of 37 bytes is refused while a byte is missing.
 #[test]
@@ -171,48 +153,50 @@ fn a_frame_is_cut_at_each_length(rt: HostRuntime) -> Result<(), Fail> {
     let mut image = image(rt.alloc())?;
     for length in 0..37usize {
         let bytes = HELLO_AT_0.get(..length).unwrap_or(HELLO_AT_0);
-        assert!(rt;
-            read(rt.alloc(), &mut image, bytes) == (BAD, BAD, BAD, BAD),
-            "{length}"
-        );
+        assert!(rt; are_refused(rt.alloc(), &mut image, bytes), "{length}");
     }
     assert!(rt; image.rebuilt() == 0 && image.high() == 0);
-    assert!(rt; read(rt.alloc(), &mut image, HELLO_AT_0) == (Ok(37), Ok(1), Ok(1), Ok(1)));
+    assert!(rt; read(rt.alloc(), &mut image, HELLO_AT_0) == Ok([37, 1, 1, 1]));
     Ok(())
+}
+
+/// Whether a datagram without a type is refused, and one of a status message is foreign.
+fn short_ones(image: &mut Image) -> Result<bool, Refusal> {
+    let is_refused = image.insert(&[0; 7]).err() == Some(BAD);
+    Ok(is_refused && image.insert(&[0, 0, 0, 0, 0, 0, 3, 0])?.foreign)
 }
 
 /// A datagram of 7 bytes has no type, and one of 8 with the type of a status message is foreign.
 #[test]
 fn short_datagrams(rt: HostRuntime) -> Result<(), Fail> {
-    let mut image = image(rt.alloc())?;
-    assert!(rt; held(&mut image, &[0; 7]) == BAD);
-    assert!(rt; image.insert(&[0, 0, 0, 0, 0, 0, 3, 0])?.foreign);
+    assert!(rt; short_ones(&mut image(rt.alloc())?)?);
     Ok(())
 }
 
-/// Whether the recording's first frame is read, if its file has so many bytes.
-fn is_read(alloc: Global, length: u64) -> Result<bool, Fail> {
-    let mut disk = MemoryDisk::new(alloc);
+/// Makes a file of its first bytes.
+fn write_cut(disk: &mut MemoryDisk, length: u64) -> Result<(), Fault> {
     disk.write_at(FIRST, 0, HELLO_AT_0)?;
     disk.write_at(FIRST, 37, &[0; 27])?;
-    disk.cut(FIRST, length)?;
-    match frame_at(alloc, &mut disk, 0, 64) {
-        Ok(frame) => Ok(frame.payload.as_slice() == b"hello".as_slice()),
-        Err(
-            Refusal::Damaged {
-                recording: 0,
-                position: 0,
-            },
-        ) => Ok(false),
-        Err(refusal) => Err(Fail::from(refusal)),
-    }
+    disk.cut(FIRST, length)
+}
+
+/// Whether the recording's first frame is read, if its file has so many bytes.
+fn is_read(alloc: Global, length: u64) -> Result<bool, Refusal> {
+    let mut disk = MemoryDisk::new(alloc);
+    write_cut(&mut disk, length)?;
+    is_hello_read(alloc, &mut disk)
 }
 
 /// Its 37 bytes are enough.
 #[test]
 fn a_segment_file_is_cut_at_each_length(rt: HostRuntime) -> Result<(), Fail> {
+    let damaged = Refusal::Damaged {
+        recording: 0,
+        position: 0,
+    };
     for length in 0..=64u64 {
-        assert!(rt; is_read(rt.alloc(), length)? == (length >= 37), "{length}");
+        let answer = if length < 37 { Err(damaged) } else { Ok(true) };
+        assert!(rt; is_read(rt.alloc(), length) == answer, "{length}");
     }
     Ok(())
 }

@@ -6,15 +6,12 @@ ghost use Rattle.segment_store.specs.Layout.{IsLayout};
 
 use crate::vectors::{HELLO_AT_0, HELLO_AT_64, HELLO_IN_NEXT_TERM, PAD_AT_TERM_END};
 use disk_core::{Disk, Fault, FileId, MemoryDisk};
-use frame_core::{
-    Frame, FrameKind, Geometry, Publication, Refusal, block_end, block_of, decode_front,
-    encode_into,
-};
+use frame_core::{Frame, FrameKind, Geometry, Publication, Refusal, block_end, block_of};
 use segment_store::{
     Keep, Layout, base_of, is_boundary, read_frame, stale_files, sweep_one, sync_segment,
     write_block,
 };
-use std::alloc::Global;
+use std::alloc::{AllocError, Global};
 use std::process::Abort;
 use std::test::Fail;
 
@@ -114,54 +111,39 @@ fn stands_at(
     Ok(count == 64 && read.starts_with(frame) && is_filled_up)
 }
 
-/// Writes the blocks of a pad at a term's end and of the frame behind it.
-fn store_both(rt: &impl Abort, alloc: Global, disk: &mut MemoryDisk) -> Result<(), Refusal> {
+/// Writes the blocks of a pad at a term's end and of the frame behind it, each by one call: whether both stand in the file,
+/// and nothing behind them.
+fn both_stand(rt: &impl Abort, alloc: Global, disk: &mut MemoryDisk) -> Result<bool, Refusal> {
     store(rt, alloc, disk, PAD_AT_TERM_END)?;
-    store(rt, alloc, disk, HELLO_IN_NEXT_TERM)
-}
-
-/// Whether both stand in the file, and nothing behind them.
-fn both_stand(disk: &mut MemoryDisk) -> Result<bool, Fault> {
+    store(rt, alloc, disk, HELLO_IN_NEXT_TERM)?;
+    let is_by_two = disk.calls() == 2;
     Ok(
-        stands_at(disk, FIRST, 65_472, PAD_AT_TERM_END)?
+        is_by_two
+            && stands_at(disk, FIRST, 65_472, PAD_AT_TERM_END)?
             && stands_at(disk, FIRST, 65_536, HELLO_IN_NEXT_TERM)?
             && disk.len(FIRST)? == 65_600,
     )
 }
 
-/// Each block is written by one call.
-fn check_both(rt: &impl Abort, alloc: Global, disk: &mut MemoryDisk) -> Result<(), Fail> {
-    store_both(rt, alloc, disk)?;
-    assert!(rt; disk.calls() == 2);
-    assert!(rt; both_stand(disk)?);
-    Ok(())
-}
-
 /// A pad at a term's end and the next frame are written by one disk call each, at their offsets in the same file.
 #[test]
 fn a_pad_at_a_terms_end_and_its_file(rt: HostRuntime) -> Result<(), Fail> {
-    let mut disk = MemoryDisk::new(rt.alloc());
-    check_both(&rt, rt.alloc(), &mut disk)
-}
-
-/// Whether the pad at the term's end is read.
-fn is_pad_read(alloc: Global, disk: &mut MemoryDisk) -> Result<bool, Refusal> {
-    let frame = frame_at(alloc, disk, 65_472, 65_536)?;
-    Ok(frame.kind == FrameKind::Pad && frame.length == 64)
-}
-
-/// Writes the pad, and reads it by one call.
-fn check_pad(rt: &impl Abort, alloc: Global, disk: &mut MemoryDisk) -> Result<(), Refusal> {
-    store(rt, alloc, disk, PAD_AT_TERM_END)?;
-    assert!(rt; is_pad_read(alloc, disk)? && disk.calls() == 2);
+    assert!(rt; both_stand(&rt, rt.alloc(), &mut MemoryDisk::new(rt.alloc()))?);
     Ok(())
+}
+
+/// Writes the pad at the term's end: whether it is read by one call.
+fn is_pad_read(rt: &impl Abort, alloc: Global, disk: &mut MemoryDisk) -> Result<bool, Refusal> {
+    store(rt, alloc, disk, PAD_AT_TERM_END)?;
+    let frame = frame_at(alloc, disk, 65_472, 65_536)?;
+    Ok(frame.kind == FrameKind::Pad && frame.length == 64 && disk.calls() == 2)
 }
 
 /// A frame is read by one disk call, and a boundary past a hole in the file is answered Damaged.
 #[test]
 fn a_frame_costs_one_call(rt: HostRuntime) -> Result<(), Fail> {
     let mut disk = MemoryDisk::new(rt.alloc());
-    check_pad(&rt, rt.alloc(), &mut disk)?;
+    assert!(rt; is_pad_read(&rt, rt.alloc(), &mut disk)?);
     let damaged = Refusal::Damaged {
         recording: 0,
         position: 0,
@@ -170,27 +152,28 @@ fn a_frame_costs_one_call(rt: HostRuntime) -> Result<(), Fail> {
     Ok(())
 }
 
-/// Puts the 64 bytes of the frame of this number, of those that have 64 bytes each from the start.
-fn put_frame(rt: &impl Abort, alloc: Global, bytes: &mut Vec<u8>, number: i32) -> Result<(), Fail> {
-    let (found, _) = decode_front(HELLO_AT_0)?;
-    let mut frame = found.to_frame(alloc)?;
-    frame.term_id = number.wrapping_div(1_024).wrapping_add(42);
-    frame.term_offset = number.wrapping_rem(1_024).wrapping_mul(64);
-    let mut out = [0; 64];
-    assert!(rt; frame.is_encodable() && frame.encoded_length() <= out.len());
-    encode_into(&frame, &mut out);
-    bytes.extend_from_slice(&out)?;
-    Ok(())
+/// `hello` of 64 bytes, but for its term and its offset.
+const FILLED_UP: [u8; 64] =
+    *b"\x25\0\0\0\0\xc0\x01\0\0\0\0\0\x07\0\0\0\xe9\x03\0\0\0\0\0\0\0\0\0\0\0\0\0\0hello\
+    \0\0\0\0\0\0\0\0\0\0\0\0\0\0\0\0\0\0\0\0\0\0\0\0\0\0\0";
+
+/// Puts the frame of this number, of those that have 64 bytes each from the start.
+fn put_frame(bytes: &mut Vec<u8>, number: i32) -> Result<(), AllocError> {
+    let mut frame = FILLED_UP;
+    let offset = number.wrapping_rem(1_024).wrapping_mul(64);
+    frame[8..12].copy_from_slice(&offset.to_le_bytes());
+    let term_id = number.wrapping_div(1_024).wrapping_add(42);
+    frame[20..24].copy_from_slice(&term_id.to_le_bytes());
+    bytes.extend_from_slice(&frame)
 }
 
 /// Writes 1,040 frames of 64 bytes each.
-fn store_frames(rt: &impl Abort, alloc: Global, disk: &mut MemoryDisk) -> Result<(), Fail> {
+fn store_frames(alloc: Global, disk: &mut MemoryDisk) -> Result<(), Fail> {
     let mut bytes = Vec::new(alloc);
     for number in 0..1_040 {
-        put_frame(rt, alloc, &mut bytes, number)?;
+        put_frame(&mut bytes, number)?;
     }
-    disk.write_at(FIRST, 0, &bytes)?;
-    Ok(())
+    Ok(disk.write_at(FIRST, 0, &bytes)?)
 }
 
 /// What a walk to a position tells, and how many calls it makes.
@@ -204,10 +187,10 @@ fn walked(disk: &mut MemoryDisk, position: i64) -> Result<(bool, Option<u64>), R
 #[test]
 fn a_walk_reads_each_window_once(rt: HostRuntime) -> Result<(), Fail> {
     let mut disk = MemoryDisk::new(rt.alloc());
-    store_frames(&rt, rt.alloc(), &mut disk)?;
+    store_frames(rt.alloc(), &mut disk)?;
     for (position, calls) in [(0, 0), (64, 2), (65_536, 2), (65_600, 4), (66_560, 4)] {
         assert!(rt;
-            walked(&mut disk, position)? == (true, Some(calls)),
+            walked(&mut disk, position) == Ok((true, Some(calls))),
             "{position}"
         );
     }
@@ -232,7 +215,7 @@ fn left_torn(rt: &impl Abort, alloc: Global, stop: u64, choice: u8) -> Result<Me
 }
 
 /// Whether the frame at 0 is read.
-fn is_hello_read(alloc: Global, disk: &mut MemoryDisk) -> Result<bool, Refusal> {
+pub(crate) fn is_hello_read(alloc: Global, disk: &mut MemoryDisk) -> Result<bool, Refusal> {
     let first = frame_at(alloc, disk, 0, 64)?;
     Ok(first.payload.as_slice() == b"hello".as_slice())
 }
@@ -243,25 +226,25 @@ fn found(alloc: Global, disk: &mut MemoryDisk) -> Result<(bool, bool), Refusal> 
     Ok((is_first, frame_at(alloc, disk, 64, 128).is_ok()))
 }
 
-/// What is found of the two blocks then.
-fn found_torn(
-    rt: &impl Abort,
-    alloc: Global,
-    stop: u64,
-    choice: u8,
-) -> Result<(bool, bool), Refusal> {
-    let mut left = left_torn(rt, alloc, stop, choice)?;
-    found(alloc, &mut left)
-}
+/// Where the changes stop and what the crash's choice is, and whether the second block is found.
+const TORN: [(u64, u8, bool); 9] = [
+    (0, 0, false),
+    (0, 1, false),
+    (0, 255, false),
+    (1, 0, false),
+    (1, 1, true),
+    (1, 255, false),
+    (2, 0, true),
+    (2, 1, true),
+    (2, 255, true),
+];
 
 /// The first block stands, and the second where it was synced or the choice kept it.
 #[test]
 fn synced_frames_stand_beside_a_torn_block(rt: HostRuntime) -> Result<(), Fail> {
-    for stop in 0..3u64 {
-        for choice in [0u8, 1, 255] {
-            let is_second = stop == 2 || (stop == 1 && choice == 1);
-            assert!(rt; found_torn(&rt, rt.alloc(), stop, choice)? == (true, is_second));
-        }
+    for (stop, choice, is_second) in TORN {
+        let mut left = left_torn(&rt, rt.alloc(), stop, choice)?;
+        assert!(rt; found(rt.alloc(), &mut left) == Ok((true, is_second)));
     }
     Ok(())
 }
@@ -274,26 +257,19 @@ fn is_first_stale(disk: &mut MemoryDisk) -> Result<bool, Refusal> {
     Ok(stale_files(disk, &GONE)?.as_slice() == [FIRST].as_slice())
 }
 
-/// Whether a sweep removes a file where all are kept, and where those are stale.
-fn sweeps(disk: &mut MemoryDisk) -> Result<(bool, bool), Refusal> {
-    Ok((
-        sweep_one(disk, &[])?,
-        is_first_stale(disk)? && sweep_one(disk, &GONE)?,
-    ))
-}
-
-/// Writes a block, whose file a sweep removes.
-fn check_sweep(rt: &impl Abort, alloc: Global, disk: &mut MemoryDisk) -> Result<(), Fail> {
+/// Writes a block: whether a sweep removes its file where it is stale, and not where all are kept.
+fn is_swept(rt: &impl Abort, alloc: Global, disk: &mut MemoryDisk) -> Result<bool, Refusal> {
     store(rt, alloc, disk, HELLO_AT_0)?;
-    assert!(rt; sweeps(disk)? == (false, true) && disk.len(FIRST)? == 0);
-    Ok(())
+    let is_kept = !sweep_one(disk, &[])?;
+    let is_removed = is_first_stale(disk)? && sweep_one(disk, &GONE)?;
+    Ok(is_kept && is_removed && disk.len(FIRST)? == 0)
 }
 
 /// A sweep removes the first stale file, and none if no file is stale.
 #[test]
 fn a_sweep_removes_the_first_stale_file(rt: HostRuntime) -> Result<(), Fail> {
-    let mut disk = MemoryDisk::new(rt.alloc());
-    check_sweep(&rt, rt.alloc(), &mut disk)
+    assert!(rt; is_swept(&rt, rt.alloc(), &mut MemoryDisk::new(rt.alloc()))?);
+    Ok(())
 }
 
 /// `hello`, term 43, offset 96: at the start of the recording that starts mid-stream, 65,632.
@@ -308,49 +284,33 @@ const IN_THE_FIRST: &[u8] =
 const IN_THE_SECOND: &[u8] =
     b"\x25\0\0\0\0\xc0\x01\0\0\0\0\0\x07\0\0\0\xe9\x03\0\0\x2d\0\0\0\0\0\0\0\0\0\0\0hello";
 
-/// Writes a block of the recording that starts mid-stream.
+/// The files of the recording that starts mid-stream.
+const MID_FIRST: FileId = FileId::Segment {
+    recording: 0,
+    base: 65_536,
+};
+
+const MID_SECOND: FileId = FileId::Segment {
+    recording: 0,
+    base: 196_608,
+};
+
+/// Writes the three frames of the recording that starts mid-stream.
 #[tactic(auto, using(crate::proofs::SegmentFacts::layout_from_mid_stream))]
-fn store_mid_stream(
-    rt: &impl Abort,
-    alloc: Global,
-    disk: &mut MemoryDisk,
-    bytes: &[u8],
-) -> Result<(), Refusal> {
-    store_in(rt, alloc, disk, &MID_STREAM, bytes)
+fn store_three(rt: &impl Abort, alloc: Global, disk: &mut MemoryDisk) -> Result<(), Refusal> {
+    store_in(rt, alloc, disk, &MID_STREAM, AT_THE_START)?;
+    store_in(rt, alloc, disk, &MID_STREAM, IN_THE_FIRST)?;
+    store_in(rt, alloc, disk, &MID_STREAM, IN_THE_SECOND)
 }
 
-/// Whether a frame stands in a file of that recording.
-fn stands_mid_stream(
-    disk: &mut MemoryDisk,
-    base: i64,
-    offset: u64,
-    frame: &[u8],
-) -> Result<bool, Fault> {
-    stands_at(disk, FileId::Segment { recording: 0, base }, offset, frame)
-}
-
-/// Whether its three frames stand in two files.
-fn holds_all(disk: &mut MemoryDisk) -> Result<bool, Fail> {
+/// Whether they stand in two files.
+fn hold_three(disk: &mut MemoryDisk) -> Result<bool, Fail> {
     Ok(
-        stands_mid_stream(disk, 65_536, 96, AT_THE_START)?
-            && stands_mid_stream(disk, 65_536, 131_008, IN_THE_FIRST)?
-            && stands_mid_stream(disk, 196_608, 0, IN_THE_SECOND)?
+        stands_at(disk, MID_FIRST, 96, AT_THE_START)?
+            && stands_at(disk, MID_FIRST, 131_008, IN_THE_FIRST)?
+            && stands_at(disk, MID_SECOND, 0, IN_THE_SECOND)?
             && disk.list()?.len() == 2,
     )
-}
-
-/// Writes the three frames.
-fn store_three(rt: &impl Abort, alloc: Global, disk: &mut MemoryDisk) -> Result<(), Refusal> {
-    store_mid_stream(rt, alloc, disk, AT_THE_START)?;
-    store_mid_stream(rt, alloc, disk, IN_THE_FIRST)?;
-    store_mid_stream(rt, alloc, disk, IN_THE_SECOND)
-}
-
-/// Writes them, and finds them.
-fn check_three(rt: &impl Abort, alloc: Global, disk: &mut MemoryDisk) -> Result<(), Fail> {
-    store_three(rt, alloc, disk)?;
-    assert!(rt; holds_all(disk)?);
-    Ok(())
 }
 
 /// A recording that starts mid-stream has its first segment file from the start of that term on, and each frame at its
@@ -358,7 +318,9 @@ fn check_three(rt: &impl Abort, alloc: Global, disk: &mut MemoryDisk) -> Result<
 #[test]
 fn segments_of_a_recording_that_starts_mid_stream(rt: HostRuntime) -> Result<(), Fail> {
     let mut disk = MemoryDisk::new(rt.alloc());
-    check_three(&rt, rt.alloc(), &mut disk)
+    store_three(&rt, rt.alloc(), &mut disk)?;
+    assert!(rt; hold_three(&mut disk)?);
+    Ok(())
 }
 
 /// The base of the segment file of a position changes exactly where a segment ends.
