@@ -45,14 +45,19 @@ fn repaired(alloc: Global, frames: &[Frame], nak: &Nak) -> Result<Items<Items<u8
     Ok(repair(alloc, frames, nak)?)
 }
 
-/// What a receiver sees of an image: the rebuild position, the high-water mark and the request for the gap.
-fn stands(image: &Image, rebuilt: i64, high: i64, gap: Option<[u8; 28]>) -> bool {
-    image.rebuilt() == rebuilt && image.high() == high && image.gap().map(|nak| nak.encode()) == gap
+/// What a receiver sees of an image: the rebuild position, the high-water mark and the request for the gap, which has no
+/// byte if there is none.
+fn stands(image: &Image, rebuilt: i64, high: i64, gap: &[u8]) -> bool {
+    let is_asked = match image.gap() {
+        Some(nak) => nak.encode().as_slice() == gap,
+        None => gap.is_empty(),
+    };
+    is_asked && image.rebuilt() == rebuilt && image.high() == high
 }
 
 /// An image of the vectors' stream.
-pub(crate) fn image(alloc: Global) -> Result<Image, Fail> {
-    Ok(Image::from_setup(alloc, &Setup::decode(&SETUP)?)?)
+pub(crate) fn image(alloc: Global) -> Result<Image, Refusal> {
+    Image::from_setup(alloc, &Setup::decode(&SETUP)?)
 }
 
 /// Inserts a datagram, and counts the frames of it that joined.
@@ -63,10 +68,10 @@ fn insert(image: &mut Image, bytes: &[u8]) -> Result<usize, Refusal> {
 /// What a receiver sees behind each of four datagrams.
 fn check_gaps(rt: &impl Abort, image: &mut Image) -> Result<(), Refusal> {
     for (bytes, rebuilt, high, gap) in [
-        (HELLO_AT_0, 64, 64, None),
-        (HELLO_AT_128, 64, 192, Some(NAK_AT_64)),
-        (HELLO_AT_64, 192, 192, None),
-        (HEARTBEAT_AT_256, 192, 256, Some(NAK_AT_192)),
+        (HELLO_AT_0, 64, 64, b"".as_slice()),
+        (HELLO_AT_128, 64, 192, NAK_AT_64.as_slice()),
+        (HELLO_AT_64, 192, 192, b"".as_slice()),
+        (HEARTBEAT_AT_256, 192, 256, NAK_AT_192.as_slice()),
     ] {
         insert(image, bytes)?;
         assert!(rt; stands(image, rebuilt, high, gap), "at {high}");
@@ -77,72 +82,61 @@ fn check_gaps(rt: &impl Abort, image: &mut Image) -> Result<(), Refusal> {
 /// Frames and heartbeats move the rebuild position and the high-water mark, and the NAK asks for the gap between them.
 #[test]
 fn frames_and_heartbeats_move_the_gap(rt: HostRuntime) -> Result<(), Fail> {
-    let mut image = image(rt.alloc())?;
-    Ok(check_gaps(&rt, &mut image)?)
+    Ok(check_gaps(&rt, &mut image(rt.alloc())?)?)
 }
 
+/// The header of a frame of 64 bytes of term 42.
+const HEADER_OF_64: &[u8] =
+    b"\x40\0\0\0\0\xc0\x01\0\0\0\0\0\x07\0\0\0\xe9\x03\0\0\x2a\0\0\0\0\0\0\0\0\0\0\0";
+
 /// How many frames join, of a datagram of a frame of 64 bytes at an offset.
-fn held_at(alloc: Global, image: &mut Image, offset: i32) -> Result<usize, Fail> {
-    let frame = message(alloc, 42, offset, &[0; 32])?;
-    Ok(insert(image, &datagram(alloc, &frame)?)?)
+fn held_at(image: &mut Image, offset: i32) -> Result<usize, Refusal> {
+    let mut bytes = [0; 64];
+    bytes[..32].copy_from_slice(HEADER_OF_64);
+    bytes[8..12].copy_from_slice(&offset.to_le_bytes());
+    insert(image, &bytes)
 }
 
 /// A frame that ends past the window of half a term is dropped.
 #[test]
 fn frames_past_the_window_are_dropped(rt: HostRuntime) -> Result<(), Fail> {
     let mut image = image(rt.alloc())?;
-    assert!(rt; held_at(rt.alloc(), &mut image, 32_736)? == 0);
-    assert!(rt; held_at(rt.alloc(), &mut image, 32_704)? == 1);
+    assert!(rt; held_at(&mut image, 32_736) == Ok(0) && held_at(&mut image, 32_704) == Ok(1));
     Ok(())
 }
 
-/// Adds `hello` at an offset.
-fn add_hello(alloc: Global, frames: &mut Vec<Frame>, offset: i32) -> Result<(), AllocError> {
-    Ok(frames.push(message(alloc, 42, offset, b"hello")?)?)
+/// Adds a message of a term at an offset.
+fn add(
+    alloc: Global,
+    frames: &mut Vec<Frame>,
+    term_id: i32,
+    offset: i32,
+    body: &[u8],
+) -> Result<(), AllocError> {
+    Ok(frames.push(message(alloc, term_id, offset, body)?)?)
 }
 
-/// Adds `hello` at 0, 64 and 128.
-fn add_hellos(alloc: Global, frames: &mut Vec<Frame>) -> Result<(), AllocError> {
-    add_hello(alloc, frames, 0)?;
-    add_hello(alloc, frames, 64)?;
-    add_hello(alloc, frames, 128)
-}
-
-/// What is sent of them for the request at 64.
-fn repaired_at_64(alloc: Global, nak: &Nak) -> Result<Items<Items<u8>>, Fail> {
+/// `hello` at 0, 64 and 128.
+fn hellos(alloc: Global) -> Result<Vec<Frame>, AllocError> {
     let mut frames = Vec::new(alloc);
-    add_hellos(alloc, &mut frames)?;
-    repaired(alloc, &frames, nak)
+    for offset in [0, 64, 128] {
+        add(alloc, &mut frames, 42, offset, b"hello")?;
+    }
+    Ok(frames)
+}
+
+/// Whether the one datagram that is sent of frames for a request has these bytes.
+fn is_answer(alloc: Global, frames: &[Frame], nak: &Nak, bytes: &[u8]) -> Result<bool, Fail> {
+    let sent = repaired(alloc, frames, nak)?;
+    Ok(matches!(sent.as_slice(), [datagram] if datagram.as_slice() == bytes))
 }
 
 /// A NAK is answered by the datagrams of the frames that it asks for.
 #[test]
 fn a_request_is_answered_by_its_frames(rt: HostRuntime) -> Result<(), Fail> {
-    let sent = repaired_at_64(rt.alloc(), &Nak::decode(&NAK_AT_64)?)?;
-    assert!(rt; sent.len() == 1);
-    for bytes in sent.as_slice() {
-        assert!(rt; bytes.as_slice() == HELLO_AT_64);
-    }
+    let nak = Nak::decode(&NAK_AT_64)?;
+    assert!(rt; is_answer(rt.alloc(), &hellos(rt.alloc())?, &nak, HELLO_AT_64)?);
     Ok(())
-}
-
-/// Adds a frame, and the zeros that fill it up.
-fn add_filled_up(bytes: &mut Vec<u8>, frame: &[u8]) -> Result<(), AllocError> {
-    bytes.extend_from_slice(frame)?;
-    bytes.extend_from_slice(&[0; 27])
-}
-
-/// Adds three frames, from offset 0 on.
-fn add_three(bytes: &mut Vec<u8>) -> Result<(), AllocError> {
-    add_filled_up(bytes, HELLO_AT_0)?;
-    add_filled_up(bytes, HELLO_AT_64)?;
-    add_filled_up(bytes, HELLO_AT_128)
-}
-
-/// A datagram of these.
-fn three_frames(alloc: Global) -> Result<Vec<u8>, AllocError> {
-    let mut bytes = Vec::new(alloc);
-    add_three(&mut bytes).and(Ok(bytes))
 }
 
 /// How many frames the next block has, if there is one.
@@ -158,7 +152,7 @@ fn taken_again(rt: &impl Abort, image: &mut Image) -> Result<Option<usize>, Refu
     match frames_taken(image) {
         Ok(count) => Ok(count),
         Err(_) => {
-            assert!(rt; stands(image, 192, 192, None));
+            assert!(rt; stands(image, 192, 192, b""));
             frames_taken(image)
         }
     }
@@ -167,29 +161,28 @@ fn taken_again(rt: &impl Abort, image: &mut Image) -> Result<Option<usize>, Refu
 /// Inserts a datagram, again where memory is refused, which has changed nothing.
 fn insert_again(rt: &impl Abort, image: &mut Image, bytes: &[u8]) -> Result<(), Refusal> {
     if insert(image, bytes).is_err() {
-        assert!(rt; stands(image, 0, 0, None));
+        assert!(rt; stands(image, 0, 0, b""));
         insert(image, bytes)?;
     }
     Ok(())
 }
 
-fn three_frames_again(alloc: Global) -> Result<Vec<u8>, AllocError> {
-    three_frames(alloc).or_else(|_| three_frames(alloc))
-}
-
-/// Three frames in a datagram, each call made again where memory is refused.
-fn insert_three(rt: &impl Abort, alloc: Global, image: &mut Image) -> Result<(), Fail> {
-    let bytes = three_frames_again(alloc)?;
-    Ok(insert_again(rt, image, &bytes)?)
-}
+/// `hello` at the offsets 0, 64 and 128 of term 42, each with zeros up to its aligned length.
+const THREE_HELLOS: &[u8] =
+    b"\x25\0\0\0\0\xc0\x01\0\0\0\0\0\x07\0\0\0\xe9\x03\0\0\x2a\0\0\0\0\0\0\0\0\0\0\0hello\
+    \0\0\0\0\0\0\0\0\0\0\0\0\0\0\0\0\0\0\0\0\0\0\0\0\0\0\0\
+    \x25\0\0\0\0\xc0\x01\0\x40\0\0\0\x07\0\0\0\xe9\x03\0\0\x2a\0\0\0\0\0\0\0\0\0\0\0hello\
+    \0\0\0\0\0\0\0\0\0\0\0\0\0\0\0\0\0\0\0\0\0\0\0\0\0\0\0\
+    \x25\0\0\0\0\xc0\x01\0\x80\0\0\0\x07\0\0\0\xe9\x03\0\0\x2a\0\0\0\0\0\0\0\0\0\0\0hello\
+    \0\0\0\0\0\0\0\0\0\0\0\0\0\0\0\0\0\0\0\0\0\0\0\0\0\0\0";
 
 /// If memory is refused once, nothing has changed, and the call may be made again. trials/refused_memory.py refuses each
 /// of its requests in turn.
 #[test]
 fn refused_memory_changes_nothing(rt: HostRuntime) -> Result<(), Fail> {
     let mut image = image(rt.alloc())?;
-    insert_three(&rt, rt.alloc(), &mut image)?;
-    assert!(rt; stands(&image, 192, 192, None));
+    insert_again(&rt, &mut image, THREE_HELLOS)?;
+    assert!(rt; stands(&image, 192, 192, b""));
     assert!(rt; taken_again(&rt, &mut image) == Ok(Some(3)));
     assert!(rt; frames_taken(&mut image) == Ok(None));
     Ok(())
@@ -200,39 +193,30 @@ const FRAMES: u32 = 100_000;
 
 const TOGETHER: u32 = 250;
 
-/// The frame of a number, from the largest term id on: what it carries is the number.
-fn numbered(alloc: Global, number: u32) -> Result<Frame, AllocError> {
+/// The term and the offset of the frame of a number, from the largest term id on.
+fn place_of(number: u32) -> (i32, i32) {
     let term_id = i32::MAX.wrapping_add((number / 1_024) as i32);
-    let offset = (number % 1_024 * 64) as i32;
-    message(alloc, term_id, offset, &number.to_le_bytes())
+    (term_id, (number % 1_024 * 64) as i32)
 }
 
-/// A heartbeat before the frame of a number.
-fn heartbeat(alloc: Global, number: u32) -> Result<Frame, AllocError> {
-    Ok(Frame {
-        kind: FrameKind::Heartbeat,
-        length: 0,
-        payload: Items::new(alloc),
-        ..numbered(alloc, number)?
-    })
-}
-
-/// Adds the frame of a number.
-fn add_numbered(alloc: Global, frames: &mut Vec<Frame>, number: u32) -> Result<(), AllocError> {
-    Ok(frames.push(numbered(alloc, number)?)?)
-}
-
-/// The frames of some numbers, from the first on.
+/// The frames of some numbers, from the first on: what each carries is its number.
 fn frames_from(alloc: Global, first: u32) -> Result<Vec<Frame>, AllocError> {
     let mut frames = Vec::new(alloc);
     for i in 0..TOGETHER {
-        add_numbered(alloc, &mut frames, first.wrapping_add(i))?;
+        let number = first.wrapping_add(i);
+        let (term_id, offset) = place_of(number);
+        add(alloc, &mut frames, term_id, offset, &number.to_le_bytes())?;
     }
     Ok(frames)
 }
 
-/// Sends a frame so many times.
-fn send_times(alloc: Global, image: &mut Image, frame: &Frame, times: u32) -> Result<(), Fail> {
+/// Sends a frame. A number says how often it comes: one in eight is lost, and one in eight comes twice.
+fn send_by(alloc: Global, image: &mut Image, frame: &Frame, seed: u32) -> Result<(), Fail> {
+    let times = match seed >> 29 {
+        0 => 0,
+        1 => 2,
+        _ => 1,
+    };
     let bytes = datagram(alloc, frame)?;
     for _ in 0..times {
         insert(image, &bytes)?;
@@ -240,24 +224,15 @@ fn send_times(alloc: Global, image: &mut Image, frame: &Frame, times: u32) -> Re
     Ok(())
 }
 
-/// Sends the frames in an order that a number gives. One in eight is lost, and one in eight comes twice.
+/// Sends the frames in an order that a number gives.
 fn send(alloc: Global, image: &mut Image, frames: &[Frame], mut seed: u32) -> Result<u32, Fail> {
     for i in 0..TOGETHER {
         let index = (i * 77 + seed % TOGETHER) % TOGETHER;
         let frame = frames.get(index as usize).ok_or("no such frame")?;
         seed = seed.wrapping_mul(1_664_525).wrapping_add(1_013_904_223);
-        send_times(alloc, image, frame, times(seed))?;
+        send_by(alloc, image, frame, seed)?;
     }
     Ok(seed)
-}
-
-/// How often a frame comes.
-fn times(seed: u32) -> u32 {
-    match seed >> 29 {
-        0 => 0,
-        1 => 2,
-        _ => 1,
-    }
 }
 
 /// Fills the gap that a request names.
@@ -300,41 +275,36 @@ fn take_all(rt: &impl Abort, image: &mut Image, mut number: u32) -> Result<u32, 
     Err("no end of blocks".into())
 }
 
+/// A heartbeat.
+const HEARTBEAT: [u8; 32] =
+    *b"\0\0\0\0\0\xc0\x01\0\0\0\0\0\x07\0\0\0\xe9\x03\0\0\0\0\0\0\0\0\0\0\0\0\0\0";
+
 /// Inserts a heartbeat before the frame of a number.
-fn beat(alloc: Global, image: &mut Image, number: u32) -> Result<(), Fail> {
-    let frame = heartbeat(alloc, number)?;
-    insert(image, &datagram(alloc, &frame)?)?;
+fn beat(image: &mut Image, number: u32) -> Result<(), Refusal> {
+    let (term_id, offset) = place_of(number);
+    let mut bytes = HEARTBEAT;
+    bytes[8..12].copy_from_slice(&offset.to_le_bytes());
+    bytes[20..24].copy_from_slice(&term_id.to_le_bytes());
+    image.insert(&bytes)?;
     Ok(())
 }
 
-/// Sends frames, a heartbeat before the frame of a number, and what is asked for, until there is no gap.
-fn send_whole(
-    alloc: Global,
-    image: &mut Image,
-    frames: &[Frame],
-    end: u32,
-    seed: u32,
-) -> Result<u32, Fail> {
-    let seed = send(alloc, image, frames, seed)?;
-    beat(alloc, image, end)?;
-    fill_all(alloc, image, frames)?;
+/// Sends the frames of some numbers, from the first on, a heartbeat behind them, and what is asked for, until there is no
+/// gap.
+fn send_all(alloc: Global, image: &mut Image, first: u32, seed: u32) -> Result<u32, Fail> {
+    let frames = frames_from(alloc, first)?;
+    let seed = send(alloc, image, &frames, seed)?;
+    beat(image, first.wrapping_add(TOGETHER))?;
+    fill_all(alloc, image, &frames)?;
     Ok(seed)
 }
 
-/// The same of the frames of some numbers, from the first on.
-fn send_all(alloc: Global, image: &mut Image, first: u32, seed: u32) -> Result<u32, Fail> {
-    let frames = frames_from(alloc, first)?;
-    send_whole(alloc, image, &frames, first.wrapping_add(TOGETHER), seed)
-}
-
 /// An image of the stream from the largest term id on.
-fn image_from_the_largest(alloc: Global) -> Result<Image, Fail> {
-    let setup = Setup {
-        initial_term_id: i32::MAX,
-        active_term_id: i32::MAX,
-        ..Setup::decode(&SETUP)?
-    };
-    Ok(Image::from_setup(alloc, &setup)?)
+fn image_from_the_largest(alloc: Global) -> Result<Image, Refusal> {
+    let mut setup = Setup::decode(&SETUP)?;
+    setup.initial_term_id = i32::MAX;
+    setup.active_term_id = i32::MAX;
+    Image::from_setup(alloc, &setup)
 }
 
 /// Sends all frames over the bad line, and counts those that are taken.

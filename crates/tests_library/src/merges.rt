@@ -12,9 +12,9 @@ const GEOMETRY: Geometry = Geometry {
     mtu: 1_408,
 };
 
-/// A message of 64 bytes with no payload at hand, of term 42, offset 64.
-fn empty_frame(alloc: Global) -> Frame {
-    Frame {
+/// What becomes of a message of 64 bytes with no payload at hand, of term 42, offset 64.
+fn offered(alloc: Global, merge: &mut Merge) -> Result<Offered, Refusal> {
+    merge.live_frame(Frame {
         kind: FrameKind::Message,
         flags: 0,
         length: 64,
@@ -24,12 +24,7 @@ fn empty_frame(alloc: Global) -> Frame {
         term_id: 42,
         reserved: 0,
         payload: Items::new(alloc),
-    }
-}
-
-/// What becomes of it.
-fn offered(alloc: Global, merge: &mut Merge) -> Result<Offered, Refusal> {
-    merge.live_frame(empty_frame(alloc))
+    })
 }
 
 /// Offers it, again where memory is refused, which has changed nothing.
