@@ -44,17 +44,13 @@ fn with_gap(alloc: Global) -> Result<BoundedImage, Refusal> {
     Ok(image)
 }
 
-/// The gap is asked for at these times, and at no other.
-fn check_times(rt: &impl Abort, image: &BoundedImage) {
+/// The gap is asked for at these times of its first second, and at no other; and not after ten seconds of silence.
+fn check_requests(rt: &impl Abort, image: &BoundedImage) {
     let mut feedback = Feedback::new(0);
     for now in 0..1_000 {
         let asked = feedback.request(now, image).is_some();
         assert!(rt; asked == NAK_TIMES.contains(&now), "at {now}");
     }
-}
-
-/// What is asked for, and nothing after ten seconds of silence.
-fn check_nak(rt: &impl Abort, image: &BoundedImage) {
     let gap = Nak {
         session_id: 7,
         stream_id: 1_001,
@@ -70,9 +66,7 @@ fn check_nak(rt: &impl Abort, image: &BoundedImage) {
 /// A NAK is repeated after 10 ms, then after twice as long each time up to 160 ms, and not after 10 seconds of silence.
 #[test]
 fn a_gap_is_asked_for_again_and_again(rt: HostRuntime) -> Result<(), Fail> {
-    let image = with_gap(rt.alloc())?;
-    check_times(&rt, &image);
-    check_nak(&rt, &image);
+    check_requests(&rt, &with_gap(rt.alloc())?);
     Ok(())
 }
 
@@ -89,9 +83,27 @@ fn said(consumed: i32) -> StatusMessage {
     }
 }
 
-/// What is due of an image now.
-fn due(feedback: &mut Feedback, now: u64, image: &BoundedImage) -> Option<StatusMessage> {
-    feedback.status(now, image, INITIAL_WINDOW, None, 9)
+/// No bytes.
+const NONE: i32 = -1;
+
+/// What is due of an image at each time, if its status messages name no position past a bound: the one of so many bytes, or
+/// none.
+fn check_due(
+    rt: &impl Abort,
+    feedback: &mut Feedback,
+    image: &BoundedImage,
+    rows: &[(u64, Option<u64>, i32)],
+) {
+    for (now, bound, consumed) in rows {
+        let due = feedback.status(*now, image, INITIAL_WINDOW, *bound, 9);
+        assert!(rt;
+            match due {
+                Some(message) => message == said(*consumed),
+                None => *consumed == NONE,
+            },
+            "at {now}"
+        );
+    }
 }
 
 /// A pad comes and is given as a block.
@@ -101,75 +113,53 @@ fn consume(alloc: Global, image: &mut BoundedImage, pad: &[u8]) -> Result<(), Re
     Ok(())
 }
 
-/// Messages of an image of which nothing is consumed.
-fn check_pauses(rt: &impl Abort, feedback: &mut Feedback, image: &BoundedImage) {
-    assert!(rt; due(feedback, 0, image) == Some(said(0)));
-    assert!(rt; due(feedback, 199, image).is_none());
-    assert!(rt; due(feedback, 200, image) == Some(said(0)));
-    assert!(rt; due(feedback, 201, image).is_none());
-}
-
-/// A quarter of the window is consumed, but for 32 bytes at first.
-fn check_quarter(
-    rt: &impl Abort,
-    alloc: Global,
-    feedback: &mut Feedback,
-    image: &mut BoundedImage,
-) -> Result<(), Refusal> {
+/// A quarter of the window is consumed, but for 32 bytes at first. Then nothing comes for ten seconds, and then something.
+fn check_clock(rt: &impl Abort, alloc: Global, image: &mut BoundedImage) -> Result<(), Refusal> {
+    let mut feedback = Feedback::new(0);
+    check_due(rt, &mut feedback, image, &PAUSES);
     consume(alloc, image, PAD_OF_8160)?;
-    assert!(rt; due(feedback, 201, image).is_none());
+    check_due(rt, &mut feedback, image, &[(201, None, NONE)]);
     consume(alloc, image, PAD_AT_8160)?;
-    assert!(rt; due(feedback, 201, image) == Some(said(8_192)));
+    check_due(rt, &mut feedback, image, &SILENCE);
+    feedback.hear(20_000);
+    assert!(rt; feedback.is_live(20_000));
+    check_due(rt, &mut feedback, image, &[(20_000, None, 8_192)]);
     Ok(())
 }
 
-/// Nothing comes for ten seconds, and then something.
-fn check_silence(rt: &impl Abort, feedback: &mut Feedback, image: &BoundedImage) {
-    assert!(rt; due(feedback, 9_999, image).is_some());
-    assert!(rt; due(feedback, 20_000, image).is_none());
-    feedback.hear(20_000);
-    assert!(rt; feedback.is_live(20_000) && due(feedback, 20_000, image).is_some());
-}
+/// Messages of an image of which nothing is consumed.
+const PAUSES: [(u64, Option<u64>, i32); 4] = [
+    (0, None, 0),
+    (199, None, NONE),
+    (200, None, 0),
+    (201, None, NONE),
+];
+
+/// Messages after a quarter of the window.
+const SILENCE: [(u64, Option<u64>, i32); 3] = [
+    (201, None, 8_192),
+    (9_999, None, 8_192),
+    (20_000, None, NONE),
+];
 
 /// A status message is due after 200 ms or a quarter of the window, and not after 10 seconds of silence until the sender
 /// is heard again.
 #[test]
 fn status_messages_follow_the_clock_and_the_stream(rt: HostRuntime) -> Result<(), Fail> {
-    let mut image = joined(rt.alloc())?;
-    let mut feedback = Feedback::new(0);
-    check_pauses(&rt, &mut feedback, &image);
-    check_quarter(&rt, rt.alloc(), &mut feedback, &mut image)?;
-    check_silence(&rt, &mut feedback, &image);
-    Ok(())
-}
-
-/// What is due of an image now, if its status messages name no position past a bound.
-fn due_up_to(
-    feedback: &mut Feedback,
-    now: u64,
-    image: &BoundedImage,
-    bound: u64,
-) -> Option<StatusMessage> {
-    feedback.status(now, image, INITIAL_WINDOW, Some(bound), 9)
+    Ok(check_clock(&rt, rt.alloc(), &mut joined(rt.alloc())?)?)
 }
 
 /// Messages of an image of which 8,192 bytes are consumed: what they name is at most the bound, and a multiple of 32. What
 /// counts for a quarter of the window is what they name.
-fn check_bounds(rt: &impl Abort, image: &BoundedImage) {
-    let mut feedback = Feedback::new(0);
-    for (now, bound, told) in [
-        (0, 0, Some(0)),
-        (1, 8_191, None),
-        (200, 31, Some(0)),
-        (201, 8_191, None),
-        (202, 8_224, Some(8_192)),
-        (203, 1_000_000, None),
-        (402, 63, Some(32)),
-    ] {
-        let due = due_up_to(&mut feedback, now, image, bound);
-        assert!(rt; due == told.map(|told: i32| said(told)), "at {now}");
-    }
-}
+const BOUNDS: [(u64, Option<u64>, i32); 7] = [
+    (0, Some(0), 0),
+    (1, Some(8_191), NONE),
+    (200, Some(31), 0),
+    (201, Some(8_191), NONE),
+    (202, Some(8_224), 8_192),
+    (203, Some(1_000_000), NONE),
+    (402, Some(63), 32),
+];
 
 /// Under a bound, status messages name no consumed position past it, and always a multiple of 32.
 #[test]
@@ -177,7 +167,7 @@ fn status_messages_name_no_position_past_a_bound(rt: HostRuntime) -> Result<(), 
     let mut image = joined(rt.alloc())?;
     consume(rt.alloc(), &mut image, PAD_OF_8160)?;
     consume(rt.alloc(), &mut image, PAD_AT_8160)?;
-    check_bounds(&rt, &image);
+    check_due(&rt, &mut Feedback::new(0), &image, &BOUNDS);
     Ok(())
 }
 
@@ -197,11 +187,15 @@ fn bound(term_length: i32, most: i32, settled: u32) -> u64 {
 /// The bound of a settled position plus the window is five sixteenths of a term past it.
 #[test]
 fn bounds_of_what_is_settled(rt: HostRuntime) {
-    assert!(rt; bound(65_536, 20_480, 4_096) == 4_096);
-    assert!(rt; bound(65_536, 1_408, 4_096) == 23_168);
-    assert!(rt; bound(1_048_576, 131_072, 64) == 196_672);
-    assert!(rt; bound(16_777_216, 131_072, 0) == 5_111_808);
-    assert!(rt; bound(16_777_216, 1_048_576, 0) == 4_194_304);
+    for (term_length, most, settled, position) in [
+        (65_536, 20_480, 4_096, 4_096),
+        (65_536, 1_408, 4_096, 23_168),
+        (1_048_576, 131_072, 64, 196_672),
+        (16_777_216, 131_072, 0, 5_111_808),
+        (16_777_216, 1_048_576, 0, 4_194_304),
+    ] {
+        assert!(rt; bound(term_length, most, settled) == position, "{settled}");
+    }
 }
 
 /// The window of a publication.
