@@ -71,13 +71,14 @@ struct Passes {
 
 fn two_passes(alloc: Global, keeps: bool) -> Result<Passes, HistoryRefusal> {
     let (history, mut passes) = Opened::new(alloc, keeps)?.with_passes(alloc, 2)?;
-    let second = passes.pop().ok_or(HistoryRefusal::BadParameter)?;
-    let first = passes.pop().ok_or(HistoryRefusal::BadParameter)?;
-    Ok(Passes {
-        history,
-        first,
-        second,
-    })
+    match (passes.pop(), passes.pop()) {
+        (Some(second), Some(first)) => Ok(Passes {
+            history,
+            first,
+            second,
+        }),
+        _ => Err(HistoryRefusal::BadParameter),
+    }
 }
 
 /// Two calls of the first pass, and one of the second between them; then the history is closed with the first alone,
@@ -157,7 +158,8 @@ fn a_pass_is_missing(rt: HostRuntime) -> Result<(), Fail> {
 
 /// How many passes are made.
 fn passes_made(alloc: Global, count: u64) -> Result<usize, HistoryRefusal> {
-    let (_, passes) = Opened::<u64>::new(alloc, false)?.with_passes::<Call>(alloc, count)?;
+    let (history, passes) = Opened::<u64>::new(alloc, false)?.with_passes::<Call>(alloc, count)?;
+    let _ = history;
     Ok(passes.len())
 }
 
@@ -207,10 +209,7 @@ fn five_again(
 }
 
 fn two_passes_again(alloc: Global) -> Result<Passes, HistoryRefusal> {
-    match two_passes(alloc, true) {
-        Ok(made) => Ok(made),
-        Err(_) => two_passes(alloc, true),
-    }
+    two_passes(alloc, true).or_else(|_| two_passes(alloc, true))
 }
 
 /// If memory is refused once, nothing has changed, and the call may be made again. trials/refused_memory.py refuses each
