@@ -7,7 +7,7 @@ use catalogue_entries::{Entry, Stage, follow, may_stand, put_opened};
 use catalogue_log::{compact, open_register};
 use disk_core::{Disk, FileId, MemoryDisk};
 use frame_core::Refusal;
-use std::alloc::Global;
+use std::alloc::{AllocError, Global};
 use std::test::Fail;
 
 // A header of the longest history and the epoch 1, but for its version.
@@ -36,18 +36,17 @@ const WHOLE: [u8; 64] = [
 ];
 
 /// Puts a bank's header.
-fn put_header(bytes: &mut Vec<u8>, version: u8) -> Result<(), Fail> {
+fn put_header(bytes: &mut Vec<u8>, version: u8) -> Result<(), AllocError> {
     bytes.extend_from_slice(&HEADER[..1])?;
-    bytes.push(version)?;
-    bytes.extend_from_slice(&HEADER[2..])?;
-    Ok(())
+    bytes.extend_from_slice(&[version])?;
+    bytes.extend_from_slice(&HEADER[2..])
 }
 
 /// Puts a length and so many bytes of text.
-fn put_text(bytes: &mut Vec<u8>, length: u16) -> Result<(), Fail> {
+fn put_text(bytes: &mut Vec<u8>, length: u16) -> Result<(), AllocError> {
     bytes.extend_from_slice(&length.to_le_bytes())?;
     for _ in 0..length {
-        bytes.push(b'c')?;
+        bytes.extend_from_slice(b"c")?;
     }
     Ok(())
 }
@@ -58,7 +57,7 @@ fn put_recording(
     (version, kind): (u8, u8),
     numbers: &[u8],
     (channel, source): (u16, u16),
-) -> Result<(), Fail> {
+) -> Result<(), AllocError> {
     let sizes = if version == 1 { 2 } else { 4 };
     let length = u16::try_from(numbers.len())
         .unwrap_or(0)
@@ -72,57 +71,70 @@ fn put_recording(
     if version == 2 {
         put_text(bytes, source)?;
     }
-    bytes.push(0)?;
-    Ok(())
+    bytes.extend_from_slice(&[0])
 }
 
-/// What opening a bank A with these bytes answers.
-fn answer_of(alloc: Global, bytes: &[u8]) -> Result<(&'static str, i64), Fail> {
+/// Puts a bank of a version, whose first entry is a start with texts of these lengths, or a recording that a compaction
+/// kept.
+fn put_bank(
+    bytes: &mut Vec<u8>,
+    version: u8,
+    is_kept: bool,
+    texts: (u16, u16),
+) -> Result<(), AllocError> {
+    put_header(bytes, version)?;
+    if is_kept {
+        bytes.extend_from_slice(&NEXT_ID)?;
+        put_recording(bytes, (version, 9), &WHOLE, texts)
+    } else {
+        put_recording(bytes, (version, 1), &START, texts)
+    }
+}
+
+/// What opening such a bank answers.
+fn answer_of(
+    alloc: Global,
+    version: u8,
+    is_kept: bool,
+    texts: (u16, u16),
+) -> Result<(&'static str, i64), Fail> {
+    let mut bytes = Vec::new(alloc);
+    put_bank(&mut bytes, version, is_kept, texts)?;
     let mut disk = MemoryDisk::new(alloc);
-    disk.write_at(FileId::BankA, 0, bytes)?;
+    disk.write_at(FileId::BankA, 0, &bytes)?;
     Ok(answer(alloc, &mut disk))
-}
-
-/// What opening a bank of a version answers, whose first entry is a start with texts of these lengths.
-fn started(alloc: Global, version: u8, texts: (u16, u16)) -> Result<(&'static str, i64), Fail> {
-    let mut bytes = Vec::new(alloc);
-    put_header(&mut bytes, version)?;
-    put_recording(&mut bytes, (version, 1), &START, texts)?;
-    answer_of(alloc, &bytes)
-}
-
-/// The same where a compaction kept the recording.
-fn kept(alloc: Global, version: u8, texts: (u16, u16)) -> Result<(&'static str, i64), Fail> {
-    let mut bytes = Vec::new(alloc);
-    put_header(&mut bytes, version)?;
-    bytes.extend_from_slice(&NEXT_ID)?;
-    put_recording(&mut bytes, (version, 9), &WHOLE, texts)?;
-    answer_of(alloc, &bytes)
 }
 
 /// Channels and sources are read up to the limits of the bank's version, and longer or empty ones are damage.
 #[test]
 fn texts_of_each_version_at_their_limits(rt: HostRuntime) -> Result<(), Fail> {
     // The version, the lengths of channel and source, and whether the entry is one.
-    let rows = [
-        (1, (1, 0), true),
-        (1, (512, 0), true),
-        (1, (513, 0), false),
-        (1, (0, 0), false),
-        (2, (0, 0), false),
-        (2, (1, 128), true),
-        (2, (1024, 0), true),
-        (2, (1024, 128), true),
-        (2, (1025, 0), false),
-        (2, (1, 129), false),
-    ];
-    for (version, texts, is_one) in rows {
-        let start = if is_one { ("A", 1) } else { ("Damaged", 32) };
-        let whole = if is_one { ("A", 2) } else { ("Damaged", 44) };
-        assert!(rt; started(rt.alloc(), version, texts)? == start);
-        assert!(rt; kept(rt.alloc(), version, texts)? == whole);
+    for (version, channel, source, is_one) in [
+        (1, 1, 0, true),
+        (1, 512, 0, true),
+        (1, 513, 0, false),
+        (1, 0, 0, false),
+        (2, 0, 0, false),
+        (2, 1, 128, true),
+        (2, 1024, 0, true),
+        (2, 1024, 128, true),
+        (2, 1025, 0, false),
+        (2, 1, 129, false),
+    ] {
+        assert!(rt; is_read(rt.alloc(), version, (channel, source), is_one)?);
     }
     Ok(())
+}
+
+/// Whether an entry with texts of these lengths is one, or is damage, at the start of a bank and after a compaction.
+fn is_read(alloc: Global, version: u8, texts: (u16, u16), is_one: bool) -> Result<bool, Fail> {
+    let start = answer_of(alloc, version, false, texts)?;
+    let whole = answer_of(alloc, version, true, texts)?;
+    Ok(if is_one {
+        start == ("A", 1) && whole == ("A", 2)
+    } else {
+        start == ("Damaged", 32) && whole == ("Damaged", 44)
+    })
 }
 
 // Numbers by chance, the same in each run.
@@ -191,21 +203,40 @@ fn entry_by_chance(alloc: Global, dice: &mut Dice, register: &Register) -> Resul
     })
 }
 
-/// Follows an entry by chance in the register and in banks of both versions, if it is admitted.
-fn go_on(
-    alloc: Global,
-    dice: &mut Dice,
-    register: &mut Register,
-    banks: (&mut Vec<u8>, &mut Vec<u8>),
-) -> Result<(), Fail> {
-    let entry = entry_by_chance(alloc, dice, register)?;
-    let is_one = may_stand(Stage::Following, register, &entry);
+/// A register, and banks of both versions that make it.
+#[derive(Drop)]
+struct Banks {
+    register: Register,
+    one: Vec<u8>,
+    two: Vec<u8>,
+}
+
+/// Follows an entry in the register and puts it into both banks, if it is admitted.
+fn add(alloc: Global, banks: &mut Banks, entry: &Entry) -> Result<(), Fail> {
+    let is_one = may_stand(Stage::Following, &banks.register, entry);
     if is_one && entry.is_held(BankVersion::One) && entry.is_held(BankVersion::Two) {
-        follow(alloc, register, &entry)?;
-        put_opened(banks.0, BankVersion::One, &entry)?;
-        put_opened(banks.1, BankVersion::Two, &entry)?;
+        follow(alloc, &mut banks.register, entry)?;
+        put_opened(&mut banks.one, BankVersion::One, entry)?;
+        put_opened(&mut banks.two, BankVersion::Two, entry)?;
     }
     Ok(())
+}
+
+/// Adds an entry by chance.
+fn go_on(alloc: Global, dice: &mut Dice, banks: &mut Banks) -> Result<(), Fail> {
+    let entry = entry_by_chance(alloc, dice, &banks.register)?;
+    add(alloc, banks, &entry)
+}
+
+/// Adds 1,000 entries by chance, and a restart.
+fn add_history(alloc: Global, banks: &mut Banks, seed: u32) -> Result<(), Fail> {
+    let mut dice = Dice { thrown: seed };
+    put_header(&mut banks.one, 1)?;
+    put_header(&mut banks.two, 2)?;
+    for _ in 0..1_000 {
+        go_on(alloc, &mut dice, banks)?;
+    }
+    add(alloc, banks, &Entry::Restart)
 }
 
 /// Whether two recordings are the same.
@@ -220,13 +251,16 @@ fn is_same(one: &Registration, other: &Registration) -> bool {
 
 /// Whether two registers are the same.
 fn are_same(one: &Register, other: &Register) -> bool {
-    one.next_recording() == other.next_recording()
-        && one.recordings().len() == other.recordings().len()
-        && one
-            .recordings()
-            .iter()
-            .zip(other.recordings().iter())
-            .all(|(left, right)| is_same(left, right))
+    let (left, right) = (one.recordings(), other.recordings());
+    if one.next_recording() != other.next_recording() || left.len() != right.len() {
+        return false;
+    }
+    for (left, right) in left.iter().zip(right.iter()) {
+        if !is_same(left, right) {
+            return false;
+        }
+    }
+    true
 }
 
 /// Whether the catalogue of a disk makes a register.
@@ -248,18 +282,16 @@ fn makes_it_twice(alloc: Global, bank: &mut Vec<u8>, register: &Register) -> Res
 
 /// Whether 1,000 entries by chance make the same register in both versions, and after a compaction.
 fn history_is_kept(alloc: Global, seed: u32) -> Result<bool, Fail> {
-    let mut dice = Dice { thrown: seed };
-    let mut register = Register::new(alloc);
-    let (mut one, mut two) = (Vec::new(alloc), Vec::new(alloc));
-    put_header(&mut one, 1)?;
-    put_header(&mut two, 2)?;
-    for _ in 0..1_000 {
-        go_on(alloc, &mut dice, &mut register, (&mut one, &mut two))?;
-    }
-    follow(alloc, &mut register, &Entry::Restart)?;
-    put_opened(&mut one, BankVersion::One, &Entry::Restart)?;
-    put_opened(&mut two, BankVersion::Two, &Entry::Restart)?;
-    Ok(makes_it_twice(alloc, &mut one, &register)? && makes_it_twice(alloc, &mut two, &register)?)
+    let mut banks = Banks {
+        register: Register::new(alloc),
+        one: Vec::new(alloc),
+        two: Vec::new(alloc),
+    };
+    add_history(alloc, &mut banks, seed)?;
+    Ok(
+        makes_it_twice(alloc, &mut banks.one, &banks.register)?
+            && makes_it_twice(alloc, &mut banks.two, &banks.register)?,
+    )
 }
 
 /// Random histories make the same recordings in both versions, and again after a compaction.
