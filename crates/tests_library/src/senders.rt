@@ -1,7 +1,7 @@
 //! A sender's limits, each at its edges and one past them, NAKs, and each request for memory refused:
 //! docs/PROTOCOL.md, "Publications of recordings".
 
-use crate::publications::{Event, Row, check_rows, lay, nak, sender_at, sender_in, status};
+use crate::publications::{check_rows, lay, nak, sender_at, sender_in, status};
 use crate::vectors::{HELLO_AT_0, HELLO_AT_64, HELLO_AT_128};
 use frame_core::{FrameKind, FrameRef, Nak, Refusal};
 use publication_core::{Due, Sender};
@@ -152,86 +152,53 @@ fn windows_are_cut(rt: HostRuntime) {
     }
 }
 
-/// `hello` at offset 0, with zeros up to its aligned length.
-const FIRST: &[u8] =
-    b"\x25\0\0\0\0\xc0\x01\0\0\0\0\0\x07\0\0\0\xe9\x03\0\0\x2a\0\0\0\0\0\0\0\0\0\0\0hello\
-    \0\0\0\0\0\0\0\0\0\0\0\0\0\0\0\0\0\0\0\0\0\0\0\0\0\0\0";
-
-/// `hello` at offset 64, with zeros up to its aligned length.
-const SECOND: &[u8] =
-    b"\x25\0\0\0\0\xc0\x01\0\x40\0\0\0\x07\0\0\0\xe9\x03\0\0\x2a\0\0\0\0\0\0\0\0\0\0\0hello\
-    \0\0\0\0\0\0\0\0\0\0\0\0\0\0\0\0\0\0\0\0\0\0\0\0\0\0\0";
-
-/// The setup frame of an image that joins at offset 0 of term 42, with an MTU of 64.
-const SETUP_OF_64: &[u8] =
-    b"\x28\0\0\0\0\0\x05\0\0\0\0\0\x07\0\0\0\xe9\x03\0\0\x2a\0\0\0\x2a\0\0\0\0\0\x01\0\x40\0\0\0\0\0\0\0";
-
-/// A heartbeat at offset 0 of term 42.
-const HEARTBEAT_AT_0: &[u8] =
-    b"\0\0\0\0\0\xc0\x01\0\0\0\0\0\x07\0\0\0\xe9\x03\0\0\x2a\0\0\0\0\0\0\0\0\0\0\0";
-
-/// A heartbeat at offset 64 of term 42.
-const HEARTBEAT_AT_64: &[u8] =
-    b"\0\0\0\0\0\xc0\x01\0\x40\0\0\0\x07\0\0\0\xe9\x03\0\0\x2a\0\0\0\0\0\0\0\0\0\0\0";
-
 /// Two datagrams, each of 64 bytes. The first goes with a limit of 64 and not of 63, the second with one of 128. A limit
 /// does not fall, and a consumption position past the sender position counts as that. What was repeated is repeated
 /// again after 60 milliseconds, and a receiver is gone after 5,000.
-const EDGES: [Row; 16] = [
-    (0, Event::Lay(0, HELLO_AT_0), Due::Setup, SETUP_OF_64),
-    (0, Event::Lay(64, HELLO_AT_64), Due::Nothing, b""),
-    (1, Event::Hear(42, 0, 63), Due::Heartbeat, HEARTBEAT_AT_0),
-    (2, Event::Hear(42, 0, 64), Due::First, FIRST),
-    (2, Event::Hear(42, 0, 127), Due::Nothing, b""),
-    (2, Event::Hear(42, 0, 0), Due::Nothing, b""),
-    (3, Event::Ask(42, 0, 64), Due::Again, FIRST),
-    (62, Event::Ask(42, 0, 64), Due::Nothing, b""),
-    (63, Event::Ask(42, 0, 64), Due::Again, FIRST),
-    (63, Event::Wait, Due::Nothing, b""),
-    (64, Event::Hear(42, 128, 63), Due::Nothing, b""),
-    (64, Event::Hear(42, 128, 64), Due::First, SECOND),
-    (65, Event::Hear(42, 0, 0), Due::Nothing, b""),
-    (5_064, Event::Ask(42, 64, 64), Due::Again, SECOND),
-    (5_065, Event::Ask(42, 0, 1), Due::Gone, b""),
-    (
-        5_065,
-        Event::Hear(42, 128, 64),
-        Due::Heartbeat,
-        HEARTBEAT_AT_128,
-    ),
-];
-
-/// A heartbeat at offset 128 of term 42.
-const HEARTBEAT_AT_128: &[u8] =
-    b"\0\0\0\0\0\xc0\x01\0\x80\0\0\0\x07\0\0\0\xe9\x03\0\0\x2a\0\0\0\0\0\0\0\0\0\0\0";
+const EDGES: &str = "\
+0|lay 0 hello_at_0|setup|setup_of_64
+0|lay 64 hello_at_64|nothing|none
+1|hear 42 0 63|heartbeat|heartbeat_at_0
+2|hear 42 0 64|first|hello_at_0
+2|hear 42 0 127|nothing|none
+2|hear 42 0 0|nothing|none
+3|ask 42 0 64|again|hello_at_0
+62|ask 42 0 64|nothing|none
+63|ask 42 0 64|again|hello_at_0
+63|wait|nothing|none
+64|hear 42 128 63|nothing|none
+64|hear 42 128 64|first|hello_at_64
+65|hear 42 0 0|nothing|none
+5064|ask 42 64 64|again|hello_at_64
+5065|ask 42 0 1|gone|none
+5065|hear 42 128 64|heartbeat|heartbeat_at_128";
 
 /// A datagram goes out if it ends at the sender limit, and waits if it ends past it; the limit never falls.
 #[test]
 fn a_datagram_goes_at_the_limit_and_not_past_it(rt: HostRuntime) -> Result<(), Fail> {
     let mut sender = sender_in(rt.alloc(), 65_536, 64, 0);
-    check_rows(&rt, &mut sender, &EDGES)?;
+    check_rows(&rt, &mut sender, EDGES)?;
     assert!(rt; sender.flow().limit == 192 && sender.flow().consumed == 128);
     Ok(())
 }
 
 /// A setup frame goes each 100 milliseconds until a status message comes, and a heartbeat after that.
-const PAUSES: [Row; 9] = [
-    (7, Event::Wait, Due::Setup, SETUP_OF_64),
-    (106, Event::Wait, Due::Nothing, b""),
-    (107, Event::Wait, Due::Setup, SETUP_OF_64),
-    (108, Event::Hear(42, 0, 0), Due::Heartbeat, HEARTBEAT_AT_0),
-    (207, Event::Wait, Due::Nothing, b""),
-    (208, Event::Wait, Due::Heartbeat, HEARTBEAT_AT_0),
-    (5_107, Event::Wait, Due::Heartbeat, HEARTBEAT_AT_0),
-    (5_108, Event::Wait, Due::Gone, b""),
-    (5_108, Event::End, Due::Nothing, b""),
-];
+const PAUSES: &str = "\
+7|wait|setup|setup_of_64
+106|wait|nothing|none
+107|wait|setup|setup_of_64
+108|hear 42 0 0|heartbeat|heartbeat_at_0
+207|wait|nothing|none
+208|wait|heartbeat|heartbeat_at_0
+5107|wait|heartbeat|heartbeat_at_0
+5108|wait|gone|none
+5108|end|nothing|none";
 
 /// Setup frames and heartbeats go out at most each 100 milliseconds, and a receiver that is silent for 5 seconds is gone.
 #[test]
 fn setup_frames_and_heartbeats_wait(rt: HostRuntime) -> Result<(), Fail> {
     let mut sender = sender_in(rt.alloc(), 65_536, 64, 0);
-    Ok(check_rows(&rt, &mut sender, &PAUSES)?)
+    Ok(check_rows(&rt, &mut sender, PAUSES)?)
 }
 
 /// What is due of a pad of so many bytes that begins where all is consumed, if the window is 32 bytes.
@@ -265,49 +232,21 @@ fn a_pad_of_half_a_term_goes_and_a_longer_one_never(rt: HostRuntime) -> Result<(
     Ok(())
 }
 
-/// `hello` at offset 32,704 of term 42.
-const HELLO_BEFORE_PAD: &[u8] =
-    b"\x25\0\0\0\0\xc0\x01\0\xc0\x7f\0\0\x07\0\0\0\xe9\x03\0\0\x2a\0\0\0\0\0\0\0\0\0\0\0hello";
-
-/// The same with zeros up to its aligned length.
-const DATAGRAM_BEFORE_PAD: &[u8] =
-    b"\x25\0\0\0\0\xc0\x01\0\xc0\x7f\0\0\x07\0\0\0\xe9\x03\0\0\x2a\0\0\0\0\0\0\0\0\0\0\0hello\
-    \0\0\0\0\0\0\0\0\0\0\0\0\0\0\0\0\0\0\0\0\0\0\0\0\0\0\0";
-
-/// A pad of half a term, at offset 32,768 of term 42.
-const HALF_A_TERM: &[u8] =
-    b"\0\x80\0\0\0\xc0\0\0\0\x80\0\0\x07\0\0\0\xe9\x03\0\0\x2a\0\0\0\0\0\0\0\0\0\0\0";
-
-/// The setup frame of an image that joins at offset 32,704 of term 42.
-const SETUP_BEFORE_PAD: &[u8] =
-    b"\x28\0\0\0\0\0\x05\0\xc0\x7f\0\0\x07\0\0\0\xe9\x03\0\0\x2a\0\0\0\x2a\0\0\0\0\0\x01\0\x80\x05\0\0\0\0\0\0";
-
 /// A message, and a pad of half a term that no window admits: it waits until the message is consumed.
-const PAD_THAT_WAITS: [Row; 7] = [
-    (
-        0,
-        Event::Lay(32_704, HELLO_BEFORE_PAD),
-        Due::Setup,
-        SETUP_BEFORE_PAD,
-    ),
-    (0, Event::Lay(32_768, HALF_A_TERM), Due::Nothing, b""),
-    (
-        1,
-        Event::Hear(42, 32_704, 64),
-        Due::First,
-        DATAGRAM_BEFORE_PAD,
-    ),
-    (1, Event::Wait, Due::Nothing, b""),
-    (2, Event::Hear(42, 32_704, 131_072), Due::Nothing, b""),
-    (3, Event::Hear(42, 32_768, 0), Due::First, HALF_A_TERM),
-    (3, Event::Hear(43, 0, 0), Due::Nothing, b""),
-];
+const PAD_THAT_WAITS: &str = "\
+0|lay 32704 hello_before_half|setup|setup_before_half
+0|lay 32768 half_a_term|nothing|none
+1|hear 42 32704 64|first|hello_before_half
+1|wait|nothing|none
+2|hear 42 32704 131072|nothing|none
+3|hear 42 32768 0|first|half_a_term
+3|hear 43 0 0|nothing|none";
 
 /// A pad that ends past the sender limit waits until all before it is consumed.
 #[test]
 fn a_pad_past_the_limit_waits_until_all_is_consumed(rt: HostRuntime) -> Result<(), Fail> {
     let mut sender = sender_at(rt.alloc(), 32_704);
-    check_rows(&rt, &mut sender, &PAD_THAT_WAITS)?;
+    check_rows(&rt, &mut sender, PAD_THAT_WAITS)?;
     assert!(rt; sender.is_finished(65_536));
     Ok(())
 }
