@@ -54,8 +54,9 @@ const LINES: [&str; 26] = [
     "# TYPE aeron_recorder_sender_limit_bytes gauge\naeron_recorder_sender_limit_bytes{recorder=\"a-1\",send=\"2\",recording=\"3\",stream=\"1001\",session=\"-7\"} 139264\n# HELP aeron_recorder_consumed_by_receiver_bytes Up to where a receiver has consumed a recording.\n# TYPE aeron_recorder_consumed_by_receiver_bytes gauge\naeron_recorder_consumed_by_receiver_bytes{recorder=\"a-1\",send=\"2\",recording=\"3\",stream=\"1001\",session=\"-7\"} 4096\n",
 ];
 
-fn measures(alloc: Global) -> Result<Measures, AllocError> {
-    Ok(Measures {
+/// Measures of a server with no recording, replay, image or sending.
+fn of_none(alloc: Global) -> Measures {
+    Measures {
         archive: ArchiveMeasures {
             is_open: true,
             is_broken: false,
@@ -70,87 +71,112 @@ fn measures(alloc: Global) -> Result<Measures, AllocError> {
             frames: 2,
             settles: settles(),
         },
-        datagrams: DatagramMeasures {
-            received: 1,
-            dropped: 2,
-            lost: 3,
-            repeats: 4,
-            naks: 5,
-            status_messages: 6,
-            images: 7,
-        },
-        resumes: ResumeMeasures {
-            holes: 8,
-            hole_bytes: 9,
-            resumed: 10,
-            resumed_bytes: 11,
-            resuming: 12,
-        },
-        places: PlaceMeasures {
-            foreign: 13,
-            refused: RefusedMeasures {
-                places: 14,
-                recordings: 15,
-                starts: 16,
-                history: 17,
-                broken: 18,
-                memory: 19,
-                other: 20,
-            },
-            recorded: 21,
-            waiting: 22,
-            other: 23,
-            places: 24,
-            recordings: 25,
-            limit: 26,
-        },
-        clients: ClientMeasures {
-            connections: 1,
-            clients: 4,
-            places: 8,
-            polls: 2,
-            replays: 3,
-        },
-        recordings: vec![in alloc;
-            RecordingMeasures {
-                recording: 3,
-                stream_id: 1_001,
-                session_id: -7,
-                recorded: 65_472,
-            },
-        ]?,
-        replays: vec![in alloc;
-            ReplayMeasures {
-                replay: 5,
-                recording: 3,
-                next: 4_096,
-            },
-        ]?,
-        images: vec![in alloc;
-            image(0, 1_001, -7, 65_536, 0),
-            image(12, -5, 8, 0, 250_000),
-        ]?,
-        sending: SendsMeasures {
-            live: 1,
-            datagrams: 41,
-            bytes: 42,
-            repeats: 43,
-            naks: 44,
-            status_messages: 45,
-            foreign: 46,
-        },
-        sends: vec![in alloc;
-            SendMeasures {
-                send: 2,
-                recording: 3,
-                stream_id: 1_001,
-                session_id: -7,
-                position: 8_192,
-                limit: 139_264,
-                consumed: 4_096,
-            },
-        ]?,
-    })
+        datagrams: DATAGRAMS,
+        resumes: RESUMES,
+        places: PLACES,
+        clients: CLIENTS,
+        recordings: Vec::new(alloc),
+        replays: Vec::new(alloc),
+        images: Vec::new(alloc),
+        sending: SENDING,
+        sends: Vec::new(alloc),
+    }
+}
+
+const DATAGRAMS: DatagramMeasures = DatagramMeasures {
+    received: 1,
+    dropped: 2,
+    lost: 3,
+    repeats: 4,
+    naks: 5,
+    status_messages: 6,
+    images: 7,
+};
+
+const RESUMES: ResumeMeasures = ResumeMeasures {
+    holes: 8,
+    hole_bytes: 9,
+    resumed: 10,
+    resumed_bytes: 11,
+    resuming: 12,
+};
+
+const PLACES: PlaceMeasures = PlaceMeasures {
+    foreign: 13,
+    refused: RefusedMeasures {
+        places: 14,
+        recordings: 15,
+        starts: 16,
+        history: 17,
+        broken: 18,
+        memory: 19,
+        other: 20,
+    },
+    recorded: 21,
+    waiting: 22,
+    other: 23,
+    places: 24,
+    recordings: 25,
+    limit: 26,
+};
+
+const CLIENTS: ClientMeasures = ClientMeasures {
+    connections: 1,
+    clients: 4,
+    places: 8,
+    polls: 2,
+    replays: 3,
+};
+
+const SENDING: SendsMeasures = SendsMeasures {
+    live: 1,
+    datagrams: 41,
+    bytes: 42,
+    repeats: 43,
+    naks: 44,
+    status_messages: 45,
+    foreign: 46,
+};
+
+/// Adds a recording, a replay, two images and a sending.
+fn add_each(measures: &mut Measures) -> Result<(), AllocError> {
+    measures.recordings.push(RecordingMeasures {
+        recording: 3,
+        stream_id: 1_001,
+        session_id: -7,
+        recorded: 65_472,
+    })?;
+    measures.replays.push(ReplayMeasures {
+        replay: 5,
+        recording: 3,
+        next: 4_096,
+    })?;
+    measures.images.push(image(0, 1_001, -7, 65_536, 0))?;
+    measures.images.push(image(12, -5, 8, 0, 250_000))?;
+    Ok(
+        measures.sends.push(SendMeasures {
+            send: 2,
+            recording: 3,
+            stream_id: 1_001,
+            session_id: -7,
+            position: 8_192,
+            limit: 139_264,
+            consumed: 4_096,
+        })?,
+    )
+}
+
+/// The text of these.
+fn printed(alloc: Global) -> Result<String, AllocError> {
+    let about = RecorderAbout {
+        name: "a-1",
+        version: "0.1.0",
+        catalogue: "2",
+        started_micros: 1_764_405_696_123_000,
+    };
+    let mut measures = of_none(alloc);
+    add_each(&mut measures)?;
+    print_metrics(alloc, &about, &measures)
 }
 
 /// Settles of 50, 51, 251, 5,000,000 and 55,999,851 microseconds.
@@ -188,13 +214,7 @@ fn image(
 /// A server's measures are printed in the text format, with their types and labels.
 #[test]
 fn a_server_is_measured(rt: HostRuntime) -> Result<(), Fail> {
-    let about = RecorderAbout {
-        name: "a-1",
-        version: "0.1.0",
-        catalogue: "2",
-        started_micros: 1_764_405_696_123_000,
-    };
-    let text = print_metrics(rt.alloc(), &about, &measures(rt.alloc())?)?;
+    let text = printed(rt.alloc())?;
     assert!(rt; text.as_str().starts_with(FIRST_LINES));
     for line in LINES {
         assert!(rt; text.as_str().contains(line), "{line}");
