@@ -53,73 +53,63 @@ fn answers(alloc: Global, bytes: &[u8], time: u64, text: &str) -> bool {
     answer(alloc, &Bytes(bytes), time, &mut out).is_ok() && out.as_slice() == text.as_bytes()
 }
 
+/// Files, each with a time and what is answered then.
+const STOOD: &str = "100 64\n200 128\n300 192\n@99@none before 99\n#\
+100 64\n200 128\n300 192\n@100@position 64 from 100 to 200\n#\
+100 64\n200 128\n300 192\n@299@position 128 from 200 to 300\n#\
+100 64\n200 128\n300 192\n@300@position 192 from 300 to -1\n#\
+100 64\n100 128\n@100@position 128 from 100 to -1\n#\
+@5@none before 5\n#\
+\n\n@5@none before 5\n#\
+100 64\n200 1@400@position 64 from 100 to -1\n#\
+100 64\n200 1-\n300 192\n@250@position 64 from 100 to 300\n#\
+100 64\n-\n300 192\n@300@position 192 from 300 to -1\n#\
+100 64\n\0\0\0\0\n300 192\n@250@position 64 from 100 to 300\n#\
+0100 64\n@400@none before 400\n#\
+100  64\n@400@none before 400\n#\
+100 64 \n@400@none before 400\n#\
++100 64\n@400@none before 400\n#\
+1 18446744073709551616\n@400@none before 400\n#\
+1 18446744073709551615\n@1@position 18446744073709551615 from 1 to -1\n";
+
+/// Whether a file's answer is the one of a case, whose parts have an `@` between them.
+fn is_answered(alloc: Global, case: &str) -> bool {
+    let mut parts = case.split('@');
+    let bytes = parts.next().unwrap_or("").as_bytes();
+    let time = parts.next().unwrap_or("").parse::<u64>();
+    let text = parts.next().unwrap_or("");
+    match time {
+        Ok(time) => answers(alloc, bytes, time, text),
+        Err(_) => false,
+    }
+}
+
 /// A file has at a time the last line at or before it, and until when it stood; lines that were torn, and texts that are no line, are
 /// passed over.
 #[test]
 fn where_a_recording_stood(rt: HostRuntime) {
-    for (bytes, time, text) in [
-        ("100 64\n200 128\n300 192\n", 99, "none before 99\n"),
-        (
-            "100 64\n200 128\n300 192\n",
-            100,
-            "position 64 from 100 to 200\n",
-        ),
-        (
-            "100 64\n200 128\n300 192\n",
-            299,
-            "position 128 from 200 to 300\n",
-        ),
-        (
-            "100 64\n200 128\n300 192\n",
-            300,
-            "position 192 from 300 to -1\n",
-        ),
-        ("100 64\n100 128\n", 100, "position 128 from 100 to -1\n"),
-        ("", 5, "none before 5\n"),
-        ("\n\n", 5, "none before 5\n"),
-        ("100 64\n200 1", 400, "position 64 from 100 to -1\n"),
-        (
-            "100 64\n200 1-\n300 192\n",
-            250,
-            "position 64 from 100 to 300\n",
-        ),
-        ("100 64\n-\n300 192\n", 300, "position 192 from 300 to -1\n"),
-        (
-            "100 64\n\0\0\0\0\n300 192\n",
-            250,
-            "position 64 from 100 to 300\n",
-        ),
-        ("0100 64\n", 400, "none before 400\n"),
-        ("100  64\n", 400, "none before 400\n"),
-        ("100 64 \n", 400, "none before 400\n"),
-        ("+100 64\n", 400, "none before 400\n"),
-        ("1 18446744073709551616\n", 400, "none before 400\n"),
-        (
-            "1 18446744073709551615\n",
-            1,
-            "position 18446744073709551615 from 1 to -1\n",
-        ),
-    ] {
-        assert!(rt;
-            answers(rt.alloc(), bytes.as_bytes(), time, text),
-            "{bytes} at {time}"
-        );
+    for case in STOOD.split('#') {
+        assert!(rt; is_answered(rt.alloc(), case), "{case}");
     }
+}
+
+/// Adds the line of an index, and before one of them what a crash may leave.
+fn add_line(alloc: Global, bytes: &mut Vec<u8>, index: u64) -> Result<(), AllocError> {
+    let line = TimesLine {
+        millis: 1_764_000_000_000 + index % 200_000 * 1_000,
+        position: index % 200_000 * 64,
+    };
+    if index == 100_000 {
+        bytes.extend_from_slice(&[0; 5_000])?;
+    }
+    bytes.extend_from_slice(added_text(alloc, index != 100_000, &line)?.as_slice())
 }
 
 /// A file of 200,000 lines, a second apart, with bytes of zero in it that a crash may leave.
 fn long_file(alloc: Global) -> Result<Vec<u8>, AllocError> {
     let mut bytes = Vec::new(alloc);
     for index in 0..200_000u64 {
-        let line = TimesLine {
-            millis: 1_764_000_000_000 + index * 1_000,
-            position: index * 64,
-        };
-        if index == 100_000 {
-            bytes.extend_from_slice(&[0; 5_000])?;
-        }
-        let text = added_text(alloc, index != 100_000, &line)?;
-        bytes.extend_from_slice(text.as_slice())?;
+        add_line(alloc, &mut bytes, index)?;
     }
     Ok(bytes)
 }
@@ -200,48 +190,51 @@ fn ends_with(alloc: Global, bytes: &str, line: Option<(u64, u64)>) -> bool {
     }
 }
 
+/// No time.
+const NONE: u64 = u64::MAX;
+
+/// The line of a time and a position, if there is one.
+fn line_at(millis: u64, position: u64) -> Option<TimesLine> {
+    match millis {
+        NONE => None,
+        _ => Some(TimesLine { millis, position }),
+    }
+}
+
 /// A line is due of a recording that moved, once enough time has passed; its time is that of the last one if the clock went back.
 #[test]
 fn which_line_is_due(rt: HostRuntime) {
-    for (last, position, now, due) in [
-        (None, 64, 500, Some((500, 64))),
-        (Some((500, 64)), 64, 5_000, None),
-        (Some((500, 64)), 128, 1_499, None),
-        (Some((500, 64)), 128, 1_500, Some((1_500, 128))),
-        (Some((500, 64)), 128, 499, Some((500, 128))),
-        (Some((500, 128)), 64, 1_500, Some((1_500, 64))),
-        (Some((500, 64)), 128, 0, Some((500, 128))),
+    // The time and the position of the last line; the position and the time now; those of the line that is due.
+    for [last, stood, position, now, due, moved] in [
+        [NONE, 0, 64, 500, 500, 64],
+        [500, 64, 64, 5_000, NONE, 0],
+        [500, 64, 128, 1_499, NONE, 0],
+        [500, 64, 128, 1_500, 1_500, 128],
+        [500, 64, 128, 499, 500, 128],
+        [500, 128, 64, 1_500, 1_500, 64],
+        [500, 64, 128, 0, 500, 128],
     ] {
-        assert!(rt; is_due(last, position, now, due), "{position} at {now}");
+        assert!(rt;
+            due_line(line_at(last, stood), position, now, 1_000) == line_at(due, moved),
+            "{position} at {now}"
+        );
     }
 }
 
-/// Whether the line that is due is this one.
-fn is_due(last: Option<(u64, u64)>, position: u64, now: u64, due: Option<(u64, u64)>) -> bool {
-    line_at(due) == due_line(line_at(last), position, now, 1_000)
-}
-
-/// A line at a time, with a position.
-fn line_at(at: Option<(u64, u64)>) -> Option<TimesLine> {
-    match at {
-        Some((millis, position)) => Some(TimesLine { millis, position }),
-        None => None,
-    }
+/// Whether a text is what is added, to a file that has lines or not.
+fn is_added(alloc: Global, has_lines: bool, text: &[u8]) -> Result<bool, AllocError> {
+    let line = TimesLine {
+        millis: 1_764_405_696_123,
+        position: 65_536,
+    };
+    Ok(added_text(alloc, has_lines, &line)?.as_slice() == text)
 }
 
 /// What is added to a file: a line, and before the first one a mark.
 #[test]
 fn what_is_added(rt: HostRuntime) -> Result<(), Fail> {
-    let line = TimesLine {
-        millis: 1_764_405_696_123,
-        position: 65_536,
-    };
-    let first = added_text(rt.alloc(), false, &line)?;
-    let next = added_text(rt.alloc(), true, &line)?;
-    assert!(rt;
-        first.as_slice() == b"-\n1764405696123 65536\n".as_slice()
-            && next.as_slice() == b"1764405696123 65536\n".as_slice()
-    );
+    assert!(rt; is_added(rt.alloc(), false, b"-\n1764405696123 65536\n")?);
+    assert!(rt; is_added(rt.alloc(), true, b"1764405696123 65536\n")?);
     Ok(())
 }
 
@@ -304,9 +297,9 @@ fn refused_memory_of_times(rt: HostRuntime) -> Result<(), Fail> {
         position: 2,
     };
     let text = added_text(rt.alloc(), true, &line)?;
-    let mut out = Vec::new(rt.alloc());
-    match answer(rt.alloc(), &Bytes(text.as_slice()), 1, &mut out) {
-        Ok(_) => Ok(()),
-        Err(_) => Err(Fail::new("no memory")),
+    if answers(rt.alloc(), text.as_slice(), 1, "position 2 from 1 to -1\n") {
+        Ok(())
+    } else {
+        Err(Fail::new("no memory"))
     }
 }
