@@ -1,12 +1,11 @@
 //! What a desk decides on the calls that are no requests, what is looked for, and the limits: docs/CONTROL.md, by example.
 
-use crate::desks::{begin, make_asked, told, told_of};
-use crate::requests::{start, start_of_bad_terms};
+use crate::desks::{begin, decided, make_asked, told_by_line, told_of};
+use crate::requests::{BAD_START, START};
 use archive_model::{Channel, Reply};
 use control_core::{
-    Decision, Desk, FindFields, OpeningDecision, Request, Written, decide, decide_close,
-    decide_open, decide_poll, decide_settle, decide_sweep, decide_verify, decide_write, laws,
-    read_terms,
+    Decision, Desk, FindFields, OpeningDecision, Request, Written, decide_close, decide_open,
+    decide_poll, decide_settle, decide_sweep, decide_verify, decide_write, laws, read_terms,
 };
 use frame_core::{Block, Frame, FrameKind, Geometry, Items, Refusal};
 use std::alloc::{AllocError, Global};
@@ -79,7 +78,7 @@ fn written(
 fn called(alloc: Global, desk: &Desk, kind: u8, number: i64, other: i64) -> Result<u8, AllocError> {
     let refusal = match kind {
         0 => number_of(&decide_settle(desk, &number)),
-        1 => opened(&decide_open(desk, &number, &other, &-1)),
+        1 => told_at(desk, number, other),
         2 => number_of(&decide_poll(desk, &number, &other, &None)),
         3 => number_of(&decide_close(desk, &number)),
         4 => number_of(&decide_sweep(desk)),
@@ -144,7 +143,9 @@ fn called_with_replay(
     other: i64,
 ) -> Result<u8, Refusal> {
     let desk = with_replay(alloc, is_broken)?;
-    Ok(called(alloc, &desk, kind, number, other)?)
+    let called = called(alloc, &desk, kind, number, other);
+    drop(desk);
+    Ok(called?)
 }
 
 /// Each call that is no request is refused by the first of its checks that fails.
@@ -157,9 +158,16 @@ fn calls_are_refused_in_their_order(rt: HostRuntime) -> Result<(), Fail> {
     Ok(())
 }
 
+/// The terms by which the bytes of session 0 are read.
+fn terms(desk: &Desk) -> Result<Geometry, Refusal> {
+    read_terms(desk, &0)
+}
+
 fn terms_of_one(alloc: Global) -> Result<Geometry, Refusal> {
     let desk = recording(alloc, 1, 1)?;
-    read_terms(&desk, &0)
+    let terms = terms(&desk);
+    drop(desk);
+    terms
 }
 
 /// A session's bytes are read with the term length, MTU and initial term id of its recording.
@@ -207,7 +215,9 @@ const WRITTEN: [(i64, u8, i64, u8); 5] = [
 
 fn called_with_blocks(alloc: Global, last: i64, kind: u8, position: i64) -> Result<u8, Refusal> {
     let desk = with_blocks(alloc, last)?;
-    Ok(called(alloc, &desk, kind, 0, position)?)
+    let called = called(alloc, &desk, kind, 0, position);
+    drop(desk);
+    Ok(called?)
 }
 
 /// A block follows where the last one ends, and one in the next segment needs a settle first.
@@ -264,7 +274,9 @@ fn kept(alloc: Global, state: u8) -> Result<Desk, Refusal> {
 
 fn told_where_kept(alloc: Global, state: u8, kind: u8, position: i64) -> Result<u8, Refusal> {
     let desk = kept(alloc, state)?;
-    Ok(told_of(alloc, &desk, kind, 0, position))
+    let told = told_of(alloc, &desk, kind, 0, position);
+    drop(desk);
+    Ok(told)
 }
 
 /// In each row the next rule is broken, too.
@@ -294,7 +306,7 @@ fn truncated(alloc: Global, desk: &Desk, position: i64) -> &'static str {
         recording: 0,
         position,
     };
-    match decide(alloc, desk, &request) {
+    match decided(alloc, desk, &request) {
         Decision::Refused(Refusal::BadPosition) => "BadPosition",
         Decision::IfBoundary { .. } => "as the frames say",
         Decision::Accepted(_) => "accepted",
@@ -315,14 +327,24 @@ const TRUNCATED: [(i64, &'static str); 10] = [
     (131_104, "BadPosition"),
 ];
 
+/// The first position whose truncation is decided otherwise.
+fn other_truncation(alloc: Global, desk: &Desk) -> Option<i64> {
+    for (position, decided) in TRUNCATED {
+        if truncated(alloc, desk, position) != decided {
+            return Some(position);
+        }
+    }
+    None
+}
+
 /// The desk accepts a truncation to a segment's base, asks the frames at other multiples of 32 in the recording, and
 /// refuses all else.
 #[test]
 fn frames_are_asked_at_multiples_of_32_alone(rt: HostRuntime) -> Result<(), Fail> {
     let desk = stopped_behind_a_segment(rt.alloc())?;
-    for (position, decided) in TRUNCATED {
-        assert!(rt; truncated(rt.alloc(), &desk, position) == decided);
-    }
+    let wrong = other_truncation(rt.alloc(), &desk);
+    drop(desk);
+    assert!(rt; wrong.is_none(), "{wrong:?}");
     Ok(())
 }
 
@@ -341,25 +363,35 @@ fn many_replays(alloc: Global) -> Result<Desk, Refusal> {
 /// A recording, a position, and what the opening of one more is told. Of a recording that is not there no position is bad.
 const OPENED: [(i64, i64, u8); 3] = [(9, 0, 1), (0, 64, 5), (0, 0, 8)];
 
+/// What the opening of a replay is told.
+fn told_at(desk: &Desk, recording: i64, position: i64) -> u8 {
+    opened(&decide_open(desk, &recording, &position, &-1))
+}
+
+/// Whether each opening of one more is refused so.
+fn are_refused(desk: &Desk) -> bool {
+    for (recording, position, refusal) in OPENED {
+        if told_at(desk, recording, position) != refusal {
+            return false;
+        }
+    }
+    true
+}
+
 /// With 64 replays open a further one is refused, unless its recording or position is refused first.
 #[test]
 fn at_most_64_replays_are_open(rt: HostRuntime) -> Result<(), Fail> {
     let desk = many_replays(rt.alloc())?;
-    for (recording, position, refusal) in OPENED {
-        assert!(rt; opened(&decide_open(&desk, &recording, &position, &-1)) == refusal);
-    }
+    let are_refused = are_refused(&desk);
+    drop(desk);
+    assert!(rt; are_refused);
     Ok(())
-}
-
-/// What a request is told.
-fn told_by(alloc: Global, desk: &Desk, request: Request) -> u8 {
-    told(&decide(alloc, desk, &request))
 }
 
 /// What a start whose terms are bad is told, and what one is whose terms are good.
 fn starts(alloc: Global, desk: &Desk) -> Result<(u8, u8), Refusal> {
-    let bad = told_by(alloc, desk, start_of_bad_terms(alloc)?);
-    let good = told_by(alloc, desk, start(alloc)?);
+    let bad = told_by_line(alloc, desk, BAD_START)?;
+    let good = told_by_line(alloc, desk, START)?;
     Ok((bad, good))
 }
 
@@ -373,7 +405,9 @@ fn starts_around_a_fault(alloc: Global, desk: &mut Desk) -> Result<[(u8, u8); 2]
 
 fn starts_beside_64(alloc: Global) -> Result<[(u8, u8); 2], Refusal> {
     let mut desk = recording(alloc, 64, 64)?;
-    starts_around_a_fault(alloc, &mut desk)
+    let told = starts_around_a_fault(alloc, &mut desk);
+    drop(desk);
+    told
 }
 
 /// The history is full, too; then a write fails.
@@ -417,8 +451,21 @@ const SOUGHT: [(i64, i32, &'static str, i64); 7] = [
     (0, 7, "", -11),
 ];
 
-fn found_on(alloc: Global, desk: &Desk, request: Request) -> i64 {
-    found(&decide(alloc, desk, &request))
+/// What is found by a desk.
+fn found_on(alloc: Global, desk: &Desk, request: &Request) -> i64 {
+    found(&decided(alloc, desk, request))
+}
+
+/// The same of these.
+fn found_by(
+    alloc: Global,
+    desk: &Desk,
+    least: i64,
+    session_id: i32,
+    fragment: &'static str,
+) -> Result<i64, Refusal> {
+    let request = sought(alloc, least, session_id, fragment)?;
+    Ok(found_on(alloc, desk, &request))
 }
 
 /// What is found of two recordings.
@@ -429,7 +476,9 @@ fn found_of_two(
     fragment: &'static str,
 ) -> Result<i64, Refusal> {
     let desk = recording(alloc, 2, 2)?;
-    Ok(found_on(alloc, &desk, sought(alloc, least, session_id, fragment)?))
+    let found = found_by(alloc, &desk, least, session_id, fragment);
+    drop(desk);
+    found
 }
 
 /// `find` returns the highest id at or above its least whose stream, session and channel match, or -1.

@@ -1,6 +1,6 @@
 //! What a desk refuses, and in which order: docs/CONTROL.md, "Refusals", by example.
 
-use crate::requests::start;
+use crate::requests::{request_of, start};
 use archive_model::ExtendFields;
 use control_core::{Decision, Desk, Request, decide, laws};
 use frame_core::Refusal;
@@ -59,14 +59,28 @@ pub(crate) fn make_asked(
     recording: i64,
     number: i64,
 ) -> Result<(), Refusal> {
-    let request = asked(kind, recording, number);
-    make(alloc, desk, &request)
+    make(alloc, desk, &asked(kind, recording, number))
 }
 
-/// What such a request is told.
+/// What is decided on a request.
+pub(crate) fn decided<'a>(alloc: Global, desk: &'a Desk, request: &Request) -> Decision<'a> {
+    decide(alloc, desk, request)
+}
+
+/// What a request is told.
+pub(crate) fn told_by(alloc: Global, desk: &Desk, request: &Request) -> u8 {
+    told(&decided(alloc, desk, request))
+}
+
+/// The same of a request by its kind and two numbers.
 pub(crate) fn told_of(alloc: Global, desk: &Desk, kind: u8, recording: i64, number: i64) -> u8 {
-    let request = asked(kind, recording, number);
-    told(&decide(alloc, desk, &request))
+    told_by(alloc, desk, &asked(kind, recording, number))
+}
+
+/// The same of a line that asks for a start.
+pub(crate) fn told_by_line(alloc: Global, desk: &Desk, line: &str) -> Result<u8, Refusal> {
+    let request = request_of(alloc, line.as_bytes())?;
+    Ok(told_by(alloc, desk, &request))
 }
 
 /// Makes a request so many times.
@@ -110,7 +124,8 @@ fn desk_of(alloc: Global, state: u8) -> Result<Desk, Refusal> {
     Ok(desk)
 }
 
-pub(crate) fn told(decision: &Decision) -> u8 {
+/// The number of a refusal, or 0.
+fn told(decision: &Decision) -> u8 {
     match decision {
         Decision::Refused(refusal) => refusal.number(),
         _ => 0,
@@ -156,7 +171,9 @@ const ROWS: [(u8, u8, i64, i64, u8); 31] = [
 /// What a request is told by a desk of such a state.
 fn told_in(alloc: Global, state: u8, kind: u8, recording: i64, number: i64) -> Result<u8, Refusal> {
     let desk = desk_of(alloc, state)?;
-    Ok(told_of(alloc, &desk, kind, recording, number))
+    let told = told_of(alloc, &desk, kind, recording, number);
+    drop(desk);
+    Ok(told)
 }
 
 /// A request with several faults is refused by the first of its checks.

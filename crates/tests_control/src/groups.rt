@@ -4,7 +4,7 @@ use crate::desk_calls::{note, recording};
 use archive_model::Reply;
 use control_core::{Desk, copy_reply, decide_settle_all};
 use frame_core::{Items, Refusal};
-use std::alloc::Global;
+use std::alloc::{AllocError, Global};
 use std::test::*;
 
 /// Settles these sessions: up to where the recording of each is recorded then.
@@ -28,10 +28,13 @@ fn with_two(alloc: Global, room: u32) -> Result<Desk, Refusal> {
 /// The positions, or the number of the refusal.
 fn answered(alloc: Global, room: u32, sessions: &[i64]) -> Result<String, Fail> {
     let mut desk = with_two(alloc, room)?;
-    Ok(match settle_all(alloc, &mut desk, sessions) {
-        Ok(positions) => format!(in alloc; "{:?} {}", positions.as_slice(), desk.counted())?,
-        Err(refusal) => format!(in alloc; "{}", refusal.number())?,
-    })
+    let settled = settle_all(alloc, &mut desk, sessions);
+    let counted = desk.counted();
+    drop(desk);
+    match settled {
+        Ok(positions) => Ok(format!(in alloc; "{:?} {counted}", positions.as_slice())?),
+        Err(refusal) => Ok(format!(in alloc; "{}", refusal.number())?),
+    }
 }
 
 fn check(alloc: Global, room: u32, sessions: &[i64], text: &str) -> Result<(), Fail> {
@@ -56,31 +59,51 @@ fn sessions_that_are_settled_together(rt: HostRuntime) -> Result<(), Fail> {
     check(rt.alloc(), 0, &[7; 65], "10")
 }
 
+/// Whether these sessions are not settled together.
+fn is_refused(desk: &Desk, sessions: &[i64]) -> bool {
+    decide_settle_all(desk, sessions).is_err()
+}
+
+/// So many numbers from 0 on.
+fn numbers_to(alloc: Global, count: i64) -> Result<Vec<i64>, AllocError> {
+    let mut numbers = Vec::new(alloc);
+    for number in 0..count {
+        numbers.push(number)?;
+    }
+    Ok(numbers)
+}
+
 /// At most 64 numbers, none twice.
 #[test]
 fn sixty_five_sessions_are_refused(rt: HostRuntime) -> Result<(), Fail> {
+    let many = numbers_to(rt.alloc(), 65)?;
+    let few = numbers_to(rt.alloc(), 64)?;
     let mut desk = with_two(rt.alloc(), 1)?;
-    let mut numbers = Vec::new(rt.alloc());
-    for number in 0..65 {
-        numbers.push(number)?;
-    }
-    let many = decide_settle_all(&desk, numbers.as_slice());
-    assert!(rt; many.is_err());
-    let _ = numbers.pop();
-    let few = settle_all(rt.alloc(), &mut desk, numbers.as_slice())?;
-    assert!(rt; few.len() == 64);
+    let is_refused = is_refused(&desk, many.as_slice());
+    let settled = settle_all(rt.alloc(), &mut desk, few.as_slice());
+    drop(desk);
+    let count = settled?.len();
+    assert!(rt; is_refused && count == 64);
     Ok(())
+}
+
+/// How many entries count behind a settle, and behind a checkpoint then.
+fn counted_around_a_checkpoint(alloc: Global, desk: &mut Desk) -> Result<(u64, u64), Refusal> {
+    let _ = settle_all(alloc, desk, &[0])?;
+    let settled = desk.counted();
+    desk.note_checkpoint();
+    Ok((settled, desk.counted()))
 }
 
 /// After a checkpoint the history counts one entry for each active recording.
 #[test]
 fn a_checkpoint_counts_active_recordings(rt: HostRuntime) -> Result<(), Fail> {
     let mut desk = with_two(rt.alloc(), 1)?;
-    let _ = settle_all(rt.alloc(), &mut desk, &[0])?;
-    assert!(rt; desk.counted() == 3);
-    desk.note_checkpoint();
-    assert!(rt; desk.counted() == 2);
-    assert!(rt; desk.register().recordings().len() == 2);
+    let counted = counted_around_a_checkpoint(rt.alloc(), &mut desk);
+    let recordings = desk.register().recordings().len();
+    drop(desk);
+    assert!(rt; counted? == (3, 2));
+    assert!(rt; recordings == 2);
     Ok(())
 }
 

@@ -1,10 +1,10 @@
 //! What a desk decides by a recording's channel and source, and by the version of its catalogue's bank: docs/CONTROL.md,
 //! "Limits" and "Refusals", by example.
 
-use crate::desks::{begin, make, make_asked, told};
-use crate::requests::request_of;
+use crate::desks::{begin, decided, make, make_asked, told_by, told_by_line};
+use crate::requests::{BAD_START, START, request_of};
 use archive_model::{BankVersion, Channel, Register, Reply, SourceIdentity, StartFields};
-use control_core::{Decision, Desk, Request, decide};
+use control_core::{Decision, Desk, Request};
 use frame_core::Refusal;
 use std::alloc::Global;
 use std::test::*;
@@ -28,7 +28,9 @@ fn start_with(channel: String, source: String) -> Request {
 /// What a start is told by an archive without recordings whose catalogue's bank has this version.
 fn started_in(alloc: Global, version: BankVersion, start: &Request) -> u8 {
     let desk = Desk::opened(alloc, Register::new(alloc), 0, 1, version);
-    told(&decide(alloc, &desk, start))
+    let told = told_by(alloc, &desk, start);
+    drop(desk);
+    told
 }
 
 // The bank's version, how many bytes the channel and the source have, and what a start is told. In each row that is
@@ -102,10 +104,6 @@ fn sources_have_no_blanks(rt: HostRuntime) -> Result<(), Fail> {
     Ok(())
 }
 
-const START: &str = "start 1001 7 42 65536 1408 131072 0 1000 c";
-
-const BAD_START: &str = "start 1001 7 42 65535 1408 131072 0 1000 c";
-
 const START_FROM: &str = "start-from s 1001 7 42 65536 1408 131072 0 1000 c";
 
 const BAD_START_FROM: &str = "start-from s 1001 7 42 65537 1408 131072 0 1000 c";
@@ -133,11 +131,6 @@ fn version_one(alloc: Global, count: u8, limit: u32) -> Result<Desk, Refusal> {
     begin(alloc, &mut desk, count).and(Ok(desk))
 }
 
-fn told_by(alloc: Global, desk: &Desk, line: &str) -> Result<u8, Refusal> {
-    let request = request_of(alloc, line.as_bytes())?;
-    Ok(told(&decide(alloc, desk, &request)))
-}
-
 fn told_in_order(
     alloc: Global,
     is_broken: bool,
@@ -149,7 +142,9 @@ fn told_in_order(
     if is_broken {
         desk.break_down();
     }
-    told_by(alloc, &desk, line)
+    let told = told_by_line(alloc, &desk, line);
+    drop(desk);
+    told
 }
 
 /// Over a catalogue of version 1 a start is refused by the first of: broken, parameters, 64 active recordings, need of a
@@ -199,11 +194,11 @@ fn is_source(decision: &Decision, text: &str) -> bool {
 }
 
 fn tells(alloc: Global, desk: &Desk, recording: i64, text: &str) -> bool {
-    is_source(&decide(alloc, desk, &Request::Source { recording }), text)
+    is_source(&decided(alloc, desk, &Request::Source { recording }), text)
 }
 
 fn refused(alloc: Global, desk: &Desk, recording: i64) -> u8 {
-    told(&decide(alloc, desk, &Request::Source { recording }))
+    told_by(alloc, desk, &Request::Source { recording })
 }
 
 /// Whether each recording's source is told, and each id's that is none refused.
@@ -220,7 +215,9 @@ fn sources_told(alloc: Global, desk: &Desk) -> [bool; 4] {
 fn sources_of_two(alloc: Global) -> Result<[bool; 4], Refusal> {
     let mut desk = with_sources_extended(alloc)?;
     desk.break_down();
-    Ok(sources_told(alloc, &desk))
+    let told = sources_told(alloc, &desk);
+    drop(desk);
+    Ok(told)
 }
 
 /// A recording keeps its source over an extension, and it is answered even by a broken archive.
@@ -240,7 +237,7 @@ fn made_again(alloc: Global) -> Result<Desk, Refusal> {
 
 /// Asked for again, where a request for memory was refused.
 fn tells_again(alloc: Global, desk: &Desk) -> bool {
-    match decide(alloc, desk, &Request::Source { recording: 0 }) {
+    match decided(alloc, desk, &Request::Source { recording: 0 }) {
         Decision::Refused(Refusal::NoMemory) => tells(alloc, desk, 0, "s"),
         decision => is_source(&decision, "s"),
     }
@@ -250,6 +247,8 @@ fn tells_again(alloc: Global, desk: &Desk) -> bool {
 #[test]
 fn refused_memory_at_a_source(rt: HostRuntime) -> Result<(), Fail> {
     let desk = made_again(rt.alloc())?;
-    assert!(rt; tells_again(rt.alloc(), &desk));
+    let tells = tells_again(rt.alloc(), &desk);
+    drop(desk);
+    assert!(rt; tells);
     Ok(())
 }

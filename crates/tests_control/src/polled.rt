@@ -28,35 +28,37 @@ fn frame_of(alloc: Global, count: usize) -> Result<PolledFrame, Fail> {
 
 /// The line of that frame, with the digits of its length.
 fn line_of(alloc: Global, length: &str, count: usize) -> Result<String, Fail> {
-    let mut line = String::from_str(alloc, "frame 64 ")?;
-    line.push_str(length)?;
-    line.push_str("00c001004000000007000000e90300002a0000000000000000000000")?;
-    for _ in 0..count {
-        line.push_str("5a")?;
-    }
-    line.push_str("\n")?;
-    Ok(line)
+    let payload = "5a".repeat(alloc, count)?;
+    Ok(format!(in alloc;
+        "frame 64 {length}00c001004000000007000000e90300002a0000000000000000000000{payload}\n"
+    )?)
 }
 
-/// What is written of that frame with its header and its payload lent.
-fn written(alloc: Global, count: usize) -> Result<Vec<u8>, Fail> {
-    let frame = frame_of(alloc, count)?.frame;
+/// What is written of a frame at 64 with its header and its payload lent.
+fn written(alloc: Global, frame: &Frame) -> Result<Vec<u8>, Fail> {
     let mut out = Vec::new(alloc);
-    write_frame_line(
-        64,
-        &frame.header(),
-        frame.payload.as_slice(),
-        &mut TextBuffer::new(),
-        &mut out,
-    )?;
+    let payload = frame.payload.as_slice();
+    let (header, mut buffer) = (frame.header(), TextBuffer::new());
+    write_frame_line(64, &header, payload, &mut buffer, &mut out)?;
     Ok(out)
+}
+
+/// What is printed of a frame.
+fn printed(alloc: Global, frame: PolledFrame) -> Result<Vec<u8>, Fail> {
+    Ok(print_reply(alloc, &Reply::Taken(Some(frame)))?)
+}
+
+/// What is written of that frame, and what is printed.
+fn lines_of(alloc: Global, count: usize) -> Result<(Vec<u8>, Vec<u8>), Fail> {
+    let polled = frame_of(alloc, count)?;
+    let written = written(alloc, &polled.frame)?;
+    Ok((written, printed(alloc, polled)?))
 }
 
 /// Whether that frame's line is written and printed.
 fn is_line(alloc: Global, length: &str, count: usize) -> Result<bool, Fail> {
+    let (written, printed) = lines_of(alloc, count)?;
     let line = line_of(alloc, length, count)?;
-    let printed = print_reply(alloc, &Reply::Taken(Some(frame_of(alloc, count)?)))?;
-    let written = written(alloc, count)?;
     Ok(written.as_slice() == line.as_bytes() && printed.as_slice() == line.as_bytes())
 }
 
@@ -99,9 +101,8 @@ impl Write for FullWriter {
 
 /// Whether a poll of one frame of 2,001 bytes fits into so much room: 4,076 bytes for its line, and 5 for `done`.
 fn fits(alloc: Global, room: usize) -> Result<bool, Fail> {
-    let mut frames = Items::new(alloc);
-    frames.push(frame_of(alloc, 2_001)?)?;
-    Ok(write_polled(frames.as_slice(), None, &mut FullWriter { room }).is_ok())
+    let polled = [frame_of(alloc, 2_001)?];
+    Ok(write_polled(&polled, None, &mut FullWriter { room }).is_ok())
 }
 
 /// A poll ends with a fault if the output has no room for all its lines.

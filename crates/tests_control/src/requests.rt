@@ -1,27 +1,29 @@
 //! Decisions of a desk without recordings: docs/CONTROL.md, "Requests", by example.
 
+use crate::desks::decided;
 use archive_model::{Channel, Command, Reply};
-use control_core::{Decision, Desk, Event, FindFields, Request, decide};
+use control_core::{Decision, Desk, Event, FindFields, Request};
 use control_lines::{Line, parse_line};
 use frame_core::Refusal;
 use std::alloc::Global;
 use std::test::*;
 
-/// The request of one line.
-pub(crate) fn start(alloc: Global) -> Result<Request, Refusal> {
-    request_of(alloc, b"start 1001 7 42 65536 1408 131072 0 1000 c")
-}
+pub(crate) const START: &str = "start 1001 7 42 65536 1408 131072 0 1000 c";
 
-/// One whose term length is none.
-pub(crate) fn start_of_bad_terms(alloc: Global) -> Result<Request, Refusal> {
-    request_of(alloc, b"start 1001 7 42 65535 1408 131072 0 1000 c")
+/// The same with a term length that is none.
+pub(crate) const BAD_START: &str = "start 1001 7 42 65535 1408 131072 0 1000 c";
+
+/// The request of that line.
+pub(crate) fn start(alloc: Global) -> Result<Request, Refusal> {
+    request_of(alloc, START.as_bytes())
 }
 
 /// The request that a line asks for.
 pub(crate) fn request_of(alloc: Global, line: &[u8]) -> Result<Request, Refusal> {
-    match parse_line(alloc, line)? {
-        Line::Event(Event::Ask(request)) => Ok(request),
-        _ => Err(Refusal::BadLine),
+    match parse_line(alloc, line) {
+        Ok(Line::Event(Event::Ask(request))) => Ok(request),
+        Ok(_) => Err(Refusal::BadLine),
+        Err(refusal) => Err(refusal),
     }
 }
 
@@ -33,14 +35,22 @@ fn named(decision: &Decision) -> &'static str {
         Decision::Answered(Reply::Recordings(_)) => "recordings",
         Decision::Answered(Reply::Found { recording: -1 }) => "nothing found",
         Decision::Refused(Refusal::HistoryFull) => "HistoryFull",
+        Decision::Refused(Refusal::NoMemory) => "NoMemory",
         _ => "another",
     }
+}
+
+/// What a desk decides on a request, by its name.
+fn named_by(alloc: Global, desk: &Desk, request: &Request) -> &'static str {
+    named(&decided(alloc, desk, request))
 }
 
 /// What is decided on a request where so many entries may be made.
 fn decided_at(alloc: Global, limit: u32, request: &Request) -> &'static str {
     let desk = Desk::new(alloc, limit);
-    named(&decide(alloc, &desk, request))
+    let named = named_by(alloc, &desk, request);
+    drop(desk);
+    named
 }
 
 /// The same of the request of one line.
@@ -91,11 +101,9 @@ fn a_full_history_refuses_a_start(rt: HostRuntime) -> Result<(), Fail> {
 
 /// Asked for again, where a request for memory was refused.
 fn is_accepted(alloc: Global, desk: &Desk, request: &Request) -> bool {
-    match decide(alloc, desk, request) {
-        Decision::Refused(Refusal::NoMemory) => {
-            matches!(decide(alloc, desk, request), Decision::Accepted(_))
-        }
-        decision => matches!(decision, Decision::Accepted(_)),
+    match named_by(alloc, desk, request) {
+        "NoMemory" => named_by(alloc, desk, request) == "a start",
+        named => named == "a start",
     }
 }
 
@@ -110,7 +118,10 @@ fn started(alloc: Global) -> Result<Request, Refusal> {
 #[test]
 fn refused_memory_at_a_decision(rt: HostRuntime) -> Result<(), Fail> {
     let request = started(rt.alloc())?;
-    let is_accepted = is_accepted(rt.alloc(), &Desk::new(rt.alloc(), 1), &request);
+    let desk = Desk::new(rt.alloc(), 1);
+    let is_accepted = is_accepted(rt.alloc(), &desk, &request);
+    drop(desk);
+    drop(request);
     assert!(rt; is_accepted);
     Ok(())
 }
