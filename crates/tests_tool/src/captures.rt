@@ -1,6 +1,7 @@
 //! What `export` writes of the archives of disks: docs/CONTROL.md, "Exporting frames"; docs/PROTOCOL.md, "Captures". Expected
 //! bytes are typed from pcap's savefile format, RFC 791, RFC 768 and the Aeron Transport Protocol Specification.
 
+use super::scenarios::with_disk;
 use super::views::after;
 use archive_commands::{CommandFault, Stop};
 use archive_export::Span;
@@ -57,8 +58,14 @@ const NEXT_HELLO: &[u8] = b"\0\0\0\0\0\0\0\0\x5c\0\0\0\x5c\0\0\0\
 fn export(alloc: Global, disk: MemoryDisk, recording: i64, span: Span) -> Result<Vec<u8>, Stop> {
     let mut out = Vec::new(alloc);
     match export_view(alloc, disk, &recording, &span, &mut out, &mut Unobserved) {
-        Ok(_) => Ok(out),
-        Err(CommandFault { why, disk: _ }) => Err(why),
+        Ok(disk) => {
+            drop(disk);
+            Ok(out)
+        }
+        Err(CommandFault { why, disk }) => {
+            drop(disk);
+            Err(why)
+        }
     }
 }
 
@@ -83,18 +90,19 @@ fn is_of(bytes: &[u8], parts: &[&[u8]]) -> bool {
     rest.is_empty()
 }
 
+/// Changes a byte of the recording's file.
+fn change(disk: &mut MemoryDisk, offset: u64) -> Result<(), Fail> {
+    let file = FileId::Segment {
+        recording: 0,
+        base: 0,
+    };
+    Ok(disk.write_at(file, offset, &[1])?)
+}
+
 /// The disk behind a script, on which a byte of the recording's file is changed.
 fn changed_at(alloc: Global, script: &str, offset: u64) -> Result<MemoryDisk, Fail> {
     let mut disk = after(alloc, script)?;
-    disk.write_at(
-        FileId::Segment {
-            recording: 0,
-            base: 0,
-        },
-        offset,
-        &[1],
-    )?;
-    Ok(disk)
+    with_disk(change(&mut disk, offset), disk)
 }
 
 /// The number of the refusal by which a part of a recording is not exported, of a disk of which a byte is changed.

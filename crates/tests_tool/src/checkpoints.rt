@@ -1,10 +1,11 @@
 //! Scripts that make checkpoints: docs/STORAGE.md, "Checkpoints".
 
-use super::compactions::check_file;
-use super::disks::with_short_history;
-use super::scenarios::{expect, replies, text_of};
+use super::compactions::{check_file, remove_spare};
+use super::disks::{failing_at, with_short_history, without_catalogue};
+use super::scenarios::{answers, check, expect, replies, text_of, texts_of, with_disk};
 use super::versions::of_version_1;
 use disk_core::{Disk, FileId, MemoryDisk};
+use frame_core::Refusal;
 use std::alloc::Global;
 use std::test::*;
 use tool_core::{
@@ -32,11 +33,28 @@ fn check_checkpointed(
     lines: &str,
     told: &str,
 ) -> Result<MemoryDisk, Fail> {
-    let script = text_of(alloc, lines)?;
-    let told = text_of(alloc, told)?;
+    let (script, told) = texts_of(alloc, lines, told)?;
     let (out, disk) = checkpointed(alloc, disk, script.as_str(), &mut Unobserved)?;
-    expect(out.as_slice(), told.as_str())?;
-    Ok(disk)
+    with_disk(expect(out.as_slice(), told.as_str()), disk)
+}
+
+/// The same, whose disk goes.
+fn check_goes(alloc: Global, disk: MemoryDisk, lines: &str, told: &str) -> Result<(), Fail> {
+    let disk = check_checkpointed(alloc, disk, lines, told)?;
+    drop(disk);
+    Ok(())
+}
+
+/// The same, and then a file of the disk has these bytes.
+fn check_bank(
+    alloc: Global,
+    disk: MemoryDisk,
+    lines: &str,
+    told: &str,
+    bytes: &[u8],
+) -> Result<MemoryDisk, Fail> {
+    let mut disk = check_checkpointed(alloc, disk, lines, told)?;
+    with_disk(check_file(&mut disk, FileId::BankB, bytes), disk)
 }
 
 /// Entries that count, active recordings, entries that may count, and whether a checkpoint is due.
@@ -70,22 +88,17 @@ fn when_a_checkpoint_is_due(rt: HostRuntime) -> Result<(), Fail> {
 /// Without checkpoints the line is none, whatever the archive is.
 #[test]
 fn no_line_without_checkpoints(rt: HostRuntime) -> Result<(), Fail> {
-    let script = text_of(
+    check(
         rt.alloc(),
         "checkpoint; start 1001 7 42 65536 1408 131072 0 1000 c; checkpoint; positions 0",
-    )?;
-    let told = text_of(
-        rt.alloc(),
         "error 22 BadLine; started 0 0; error 22 BadLine; positions 0 0 -1",
-    )?;
-    let (out, _) = replies(rt.alloc(), MemoryDisk::new(rt.alloc()), script.as_str())?;
-    expect(out.as_slice(), told.as_str())
+    )
 }
 
 /// The lines that fill a history of three entries fill none with checkpoints: docs/STORAGE.md, "Checkpoints".
 #[test]
 fn a_short_history_never_ends(rt: HostRuntime) -> Result<(), Fail> {
-    check_checkpointed(
+    check_goes(
         rt.alloc(),
         with_short_history(rt.alloc())?,
         "start 1001 7 42 65536 1408 131072 0 1000 c; block 0 HELLO_AT_0; block 0 HELLO_AT_64; stop 0 2000; reopen; \
@@ -94,8 +107,7 @@ fn a_short_history_never_ends(rt: HostRuntime) -> Result<(), Fail> {
         "started 0 0; settled 64; settled 128; stopped 128; reopened 0; \
         recording 0 1000 2000 0 128 42 131072 65536 1408 7 1001 c; end 1; truncated 64; extended 0; settled 128; settled 192; \
         positions 0 192 -1; verified 3; bye",
-    )?;
-    Ok(())
+    )
 }
 
 // Bank B behind a checkpoint of a recording that is active at 64: the header of epoch 2, the next id 1, the recording as a restart
@@ -116,21 +128,20 @@ const BANK_B: [u8; 134] = [
 /// on.
 #[test]
 fn the_bank_behind_a_checkpoint(rt: HostRuntime) -> Result<(), Fail> {
-    let mut disk = check_checkpointed(
+    let disk = check_bank(
         rt.alloc(),
         MemoryDisk::new(rt.alloc()),
         "start 1001 7 42 65536 1408 131072 0 1000 c; block 0 HELLO_AT_0; replay 0 0 -1; write 0 HELLO_AT_64; checkpoint; \
         poll 0 1; positions 0",
         "started 0 0; settled 64; replay 0; written 128; checkpointed; frame 0 HELLO_AT_0; more 64; positions 0 64 -1",
+        &BANK_B,
     )?;
-    check_file(&mut disk, FileId::BankB, &BANK_B)?;
-    check_checkpointed(
+    check_goes(
         rt.alloc(),
         disk,
         "list 0 1; extend 0 1001 7 42 65536 1408 64; block 0 HELLO_AT_64; checkpoint; stop 0 2000; verify 0",
         "recording 0 1000 -1 0 64 42 131072 65536 1408 7 1001 c; end 1; extended 0; settled 128; checkpointed; stopped 128; verified 2",
-    )?;
-    Ok(())
+    )
 }
 
 // Bank B behind the first line over an archive of version 1 with a history of three entries, two of which count: a checkpoint was
@@ -149,20 +160,19 @@ const BANK_B_OF_1: [u8; 118] = [
 /// A catalogue of version 1 becomes one of version 2 without a stop: a source is taken then.
 #[test]
 fn version_1_becomes_version_2(rt: HostRuntime) -> Result<(), Fail> {
-    let mut disk = check_checkpointed(
+    let disk = check_bank(
         rt.alloc(),
         of_version_1(rt.alloc())?,
         "positions 0",
         "positions 0 64 64",
+        &BANK_B_OF_1,
     )?;
-    check_file(&mut disk, FileId::BankB, &BANK_B_OF_1)?;
-    check_checkpointed(
+    check_goes(
         rt.alloc(),
         disk,
         "start-from 127.0.0.1:40123 1001 7 42 65536 1408 131072 0 1000 c; source 1; verify 0",
         "started 1 0; source 15 127.0.0.1:40123; verified 1",
-    )?;
-    Ok(())
+    )
 }
 
 /// One line for each event, and for what a script has beside them.
@@ -197,84 +207,90 @@ fn without_checkpointed(alloc: Global, text: &[u8]) -> Result<String, Fail> {
     Ok(left)
 }
 
+/// What the lines are answered.
+fn plain_answers(alloc: Global) -> Result<Vec<u8>, Fail> {
+    let script = text_of(alloc, EACH_EVENT)?;
+    answers(alloc, script.as_str())
+}
+
+/// The same with a checkpoint behind each, but for its answers.
+fn other_answers(alloc: Global) -> Result<String, Fail> {
+    let script = with_checkpoints(alloc, EACH_EVENT)?;
+    let disk = MemoryDisk::new(alloc);
+    let (out, disk) = checkpointed(alloc, disk, script.as_str(), &mut Unobserved)?;
+    drop(disk);
+    without_checkpointed(alloc, out.as_slice())
+}
+
 /// A checkpoint behind each line changes no answer.
 #[test]
 fn each_event_with_a_checkpoint_behind_it(rt: HostRuntime) -> Result<(), Fail> {
-    let script = text_of(rt.alloc(), EACH_EVENT)?;
-    let (plain, _) = replies(rt.alloc(), MemoryDisk::new(rt.alloc()), script.as_str())?;
-    let script = with_checkpoints(rt.alloc(), EACH_EVENT)?;
-    let disk = MemoryDisk::new(rt.alloc());
-    let (out, _) = checkpointed(rt.alloc(), disk, script.as_str(), &mut Unobserved)?;
-    let left = without_checkpointed(rt.alloc(), out.as_slice())?;
-    expect(
-        left.as_str().as_bytes(),
-        std::str::from_utf8(plain.as_slice())?,
-    )
+    let plain = plain_answers(rt.alloc())?;
+    let other = other_answers(rt.alloc())?;
+    expect(plain.as_slice(), other.as_str())
 }
 
-/// A disk whose other bank is not there.
-fn without_spare(alloc: Global) -> Result<MemoryDisk, Fail> {
+/// An empty archive, whose other bank is removed, or which is of this epoch.
+fn changed(alloc: Global, epoch: Option<u64>) -> Result<MemoryDisk, Fail> {
     let (_, mut disk) = replies(alloc, MemoryDisk::new(alloc), "list 0 1\n")?;
-    disk.remove(FileId::BankB)?;
-    disk.sync(FileId::BankB)?;
-    Ok(disk)
+    with_disk(change(&mut disk, epoch), disk)
 }
 
-/// A disk with a new archive of this epoch.
-fn of_epoch(alloc: Global, epoch: u64) -> Result<MemoryDisk, Fail> {
-    let (_, mut disk) = replies(alloc, MemoryDisk::new(alloc), "list 0 1\n")?;
+/// Removes the other bank of a disk, or changes the epoch of the first one.
+fn change(disk: &mut MemoryDisk, epoch: Option<u64>) -> Result<(), Fail> {
+    match epoch {
+        Some(epoch) => put_epoch(disk, epoch),
+        None => remove_spare(disk),
+    }
+}
+
+/// Changes the epoch of a disk's first bank.
+fn put_epoch(disk: &mut MemoryDisk, epoch: u64) -> Result<(), Fail> {
     disk.write_at(FileId::BankA, 8, &epoch.to_le_bytes())?;
-    disk.sync(FileId::BankA)?;
-    Ok(disk)
+    Ok(disk.sync(FileId::BankA)?)
+}
+
+/// Fails where a checkpoint on such a disk is answered otherwise, or anything around it.
+fn check_refused(alloc: Global, epoch: Option<u64>, answer: &str) -> Result<(), Fail> {
+    let told = format!(in alloc;
+        "started 0 0; settled 64; {answer}; settled 128; positions 0 128 -1; verified 2"
+    )?;
+    check_goes(
+        alloc,
+        changed(alloc, epoch)?,
+        "start 1001 7 42 65536 1408 131072 0 1000 c; block 0 HELLO_AT_0; checkpoint; block 0 HELLO_AT_64; positions 0; \
+        verify 0",
+        told.as_str(),
+    )
 }
 
 /// Refused by the other bank, and at the last epoch, everything is as it was.
 #[test]
 fn checkpoints_that_are_refused(rt: HostRuntime) -> Result<(), Fail> {
-    for (disk, answer) in [
-        (without_spare(rt.alloc())?, "error 19 NotCatalogue"),
-        (of_epoch(rt.alloc(), u64::MAX)?, "error 11 HistoryFull"),
-        (of_epoch(rt.alloc(), u64::MAX - 1)?, "checkpointed"),
-    ] {
-        let told = format!(in rt.alloc();
-            "started 0 0; settled 64; {answer}; settled 128; positions 0 128 -1; verified 2"
-        )?;
-        check_checkpointed(
-            rt.alloc(),
-            disk,
-            "start 1001 7 42 65536 1408 131072 0 1000 c; block 0 HELLO_AT_0; checkpoint; block 0 HELLO_AT_64; positions 0; \
-            verify 0",
-            told.as_str(),
-        )?;
-    }
-    Ok(())
+    check_refused(rt.alloc(), None, "error 19 NotCatalogue")?;
+    check_refused(rt.alloc(), Some(u64::MAX), "error 11 HistoryFull")?;
+    check_refused(rt.alloc(), Some(u64::MAX - 1), "checkpointed")
 }
 
 /// Where no archive is open, and after a failed write, it is Broken.
 #[test]
 fn a_checkpoint_of_a_broken_archive(rt: HostRuntime) -> Result<(), Fail> {
-    let mut disk = MemoryDisk::new(rt.alloc());
-    disk.write_at(FileId::BankA, 0, &[0; 32])?;
-    disk.sync(FileId::BankA)?;
-    check_checkpointed(
+    check_goes(
         rt.alloc(),
-        disk,
+        without_catalogue(rt.alloc())?,
         "checkpoint; reopen; checkpoint",
         "error 16 Broken; error 19 NotCatalogue; error 16 Broken",
     )?;
-    let mut disk = MemoryDisk::new(rt.alloc());
-    disk.fail_at(13);
-    check_checkpointed(
+    check_goes(
         rt.alloc(),
-        disk,
+        failing_at(rt.alloc(), 13),
         "start 1001 7 42 65536 1408 131072 0 1000 c; block 0 HELLO_AT_0; checkpoint; reopen; checkpoint; positions 0",
         "started 0 0; error 17 DeviceFault; error 16 Broken; reopened 1; checkpointed; positions 0 0 0",
-    )?;
-    Ok(())
+    )
 }
 
 /// Counts checkpoints by how they ended, and takes the highest count of entries.
-#[derive(Drop)]
+#[derive(Clone, Copy)]
 struct Counting {
     made: u64,
     refused: u64,
@@ -295,47 +311,58 @@ impl Observer for Counting {
 }
 
 /// How often a checkpoint was made and refused in a script over a disk, and how many entries counted at most.
-fn counted(alloc: Global, disk: MemoryDisk, lines: &str) -> Result<Counting, Fail> {
+fn counted(alloc: Global, disk: MemoryDisk) -> Result<(u64, u64, u64), Fail> {
     let mut counting = Counting {
         made: 0,
         refused: 0,
         highest: 0,
     };
-    let script = text_of(alloc, lines)?;
-    let _ = checkpointed(alloc, disk, script.as_str(), &mut counting)?;
-    Ok(counting)
+    let script = text_of(alloc, FOUR_ENTRIES)?;
+    let (_, disk) = checkpointed(alloc, disk, script.as_str(), &mut counting)?;
+    drop(disk);
+    Ok((counting.made, counting.refused, counting.highest))
 }
 
 /// Lines that make four entries, and then one that makes none.
 const FOUR_ENTRIES: &str =
     "start 1001 7 42 65536 1408 131072 0 1000 c; block 0 HELLO_AT_0; block 0 HELLO_AT_64; stop 0 2000; list 0 1";
 
+/// A disk with a short history, whose other bank is removed.
+fn short_without_spare(alloc: Global) -> Result<MemoryDisk, Fail> {
+    let mut disk = with_short_history(alloc)?;
+    with_disk(remove_spare(&mut disk), disk)
+}
+
 /// An observer gets what became of each checkpoint that was due.
 #[test]
 fn checkpoints_are_observed(rt: HostRuntime) -> Result<(), Fail> {
-    let short = counted(rt.alloc(), with_short_history(rt.alloc())?, FOUR_ENTRIES)?;
-    assert!(rt; short.made == 3 && short.refused == 0 && short.highest == 2);
-    let mut disk = with_short_history(rt.alloc())?;
-    disk.remove(FileId::BankB)?;
-    disk.sync(FileId::BankB)?;
-    let refused = counted(rt.alloc(), disk, FOUR_ENTRIES)?;
-    assert!(rt; refused.made == 0 && refused.refused == 3 && refused.highest == 3);
-    let long = counted(rt.alloc(), MemoryDisk::new(rt.alloc()), FOUR_ENTRIES)?;
-    assert!(rt; long.made == 0 && long.refused == 0 && long.highest == 4);
+    let short = counted(rt.alloc(), with_short_history(rt.alloc())?)?;
+    assert!(rt; short == (3, 0, 2));
+    let refused = counted(rt.alloc(), short_without_spare(rt.alloc())?)?;
+    assert!(rt; refused == (0, 3, 3));
+    let long = counted(rt.alloc(), MemoryDisk::new(rt.alloc()))?;
+    assert!(rt; long == (0, 0, 4));
     Ok(())
 }
 
 /// What is printed of a checkpoint.
 #[test]
 fn what_is_told_of_a_checkpoint(rt: HostRuntime) -> Result<(), Fail> {
-    let made = CheckpointOutcome::Made {
-        entries: 8_388_640,
-        left: 64,
-    };
-    let told = format!(in rt.alloc(); "{made}")?;
-    assert!(rt; told.as_str() == "the history was made short: 8388640 entries became 64");
-    let refused = CheckpointOutcome::Refused(frame_core::Refusal::NotCatalogue);
-    let told = format!(in rt.alloc(); "{refused}")?;
-    assert!(rt; told.as_str() == "the history was not made short: error 19 NotCatalogue");
+    for (outcome, told) in [
+        (
+            CheckpointOutcome::Made {
+                entries: 8_388_640,
+                left: 64,
+            },
+            "the history was made short: 8388640 entries became 64",
+        ),
+        (
+            CheckpointOutcome::Refused(Refusal::NotCatalogue),
+            "the history was not made short: error 19 NotCatalogue",
+        ),
+    ] {
+        let text = outcome.to_string(rt.alloc())?;
+        assert!(rt; text.as_str() == told);
+    }
     Ok(())
 }

@@ -2,7 +2,8 @@
 
 use super::disks::{recorded, with_short_history};
 use super::frames::FullWriter;
-use super::scenarios::{behind, check, check_on, expect, replies};
+use super::scenarios::{behind, check, check_on, check_over, expect, replies, with_disk};
+use super::versions::of_version_1;
 use archive_commands::{CommandFault, Stop, compact_archive};
 use disk_core::{Disk, FileId, MemoryDisk};
 use std::alloc::Global;
@@ -51,18 +52,19 @@ pub fn check_file(disk: &mut MemoryDisk, file: FileId, bytes: &[u8]) -> Result<(
 pub fn check_bank(
     alloc: Global,
     disk: MemoryDisk,
-    (lines, told): (&str, &str),
-    (file, bytes): (FileId, &[u8]),
+    lines: &str,
+    told: &str,
+    file: FileId,
+    bytes: &[u8],
 ) -> Result<MemoryDisk, Fail> {
     let mut disk = check_on(alloc, disk, lines, told)?;
-    check_file(&mut disk, file, bytes)?;
-    Ok(disk)
+    with_disk(check_file(&mut disk, file, bytes), disk)
 }
 
 /// A history of three entries is full; it is compacted, and goes on.
 #[test]
 fn full_history_and_compaction(rt: HostRuntime) -> Result<(), Fail> {
-    check_on(
+    check_over(
         rt.alloc(),
         with_short_history(rt.alloc())?,
         "start 1001 7 42 65536 1408 131072 0 1000 c; block 0 HELLO_AT_0; block 0 HELLO_AT_64; stop 0 2000; reopen; \
@@ -70,8 +72,7 @@ fn full_history_and_compaction(rt: HostRuntime) -> Result<(), Fail> {
         "started 0 0; settled 64; settled 128; error 11 HistoryFull; reopened 1; \
         recording 0 1000 -1 0 128 42 131072 65536 1408 7 1001 c; end 1; error 11 HistoryFull; compacted; truncated 64; \
         compacted; recording 0 1000 -1 0 64 42 131072 65536 1408 7 1001 c; end 1",
-    )?;
-    Ok(())
+    )
 }
 
 /// The bytes of the second bank after such a compaction, and of the first one after a further one.
@@ -80,18 +81,20 @@ fn banks_behind_a_compaction(rt: HostRuntime) -> Result<(), Fail> {
     let disk = check_bank(
         rt.alloc(),
         with_short_history(rt.alloc())?,
-        (
-            "start 1001 7 42 65536 1408 131072 0 1000 c; block 0 HELLO_AT_0; block 0 HELLO_AT_64; compact; truncate 0 64",
-            "started 0 0; settled 64; settled 128; compacted; truncated 64",
-        ),
-        (FileId::BankB, BANK_B.as_slice()),
+        "start 1001 7 42 65536 1408 131072 0 1000 c; block 0 HELLO_AT_0; block 0 HELLO_AT_64; compact; truncate 0 64",
+        "started 0 0; settled 64; settled 128; compacted; truncated 64",
+        FileId::BankB,
+        &BANK_B,
     )?;
-    check_bank(
+    let disk = check_bank(
         rt.alloc(),
         disk,
-        ("compact", "compacted"),
-        (FileId::BankA, BANK_A.as_slice()),
+        "compact",
+        "compacted",
+        FileId::BankA,
+        &BANK_A,
     )?;
+    drop(disk);
     Ok(())
 }
 
@@ -111,26 +114,29 @@ fn numbers_behind_a_compaction(rt: HostRuntime) -> Result<(), Fail> {
     )
 }
 
+/// Removes the other bank of a disk.
+pub fn remove_spare(disk: &mut MemoryDisk) -> Result<(), Fail> {
+    disk.remove(FileId::BankB)?;
+    Ok(disk.sync(FileId::BankB)?)
+}
+
 /// A disk whose other bank is not there.
 fn without_spare(alloc: Global) -> Result<MemoryDisk, Fail> {
     let mut disk = recorded(alloc, MemoryDisk::new(alloc))?;
-    disk.remove(FileId::BankB)?;
-    disk.sync(FileId::BankB)?;
-    Ok(disk)
+    with_disk(remove_spare(&mut disk), disk)
 }
 
 /// Refused, none is open until a reopening opens it; a merge stays.
 #[test]
 fn a_compaction_that_is_refused(rt: HostRuntime) -> Result<(), Fail> {
-    check_on(
+    check_over(
         rt.alloc(),
         without_spare(rt.alloc())?,
         "extend 0 1001 7 42 65536 1408 64; merge 42 65536 0; compact; list 0 1; compact; settle 0; merge-state; reopen; \
         positions 0; compact; reopen; positions 0",
         "extended 0; merge 0; error 19 NotCatalogue; error 16 Broken; error 16 Broken; error 16 Broken; merged no 0; reopened 0; \
         positions 0 64 64; error 19 NotCatalogue; reopened 0; positions 0 64 64",
-    )?;
-    Ok(())
+    )
 }
 
 /// The disk behind a compaction for which it stops after so many changes.
@@ -151,42 +157,52 @@ fn left(disk: MemoryDisk, choice: Option<u8>) -> Result<MemoryDisk, Fail> {
     }
 }
 
-/// Fails where the archive of such a disk does not open, says another thing, or is not compacted.
-pub fn check_stopped(
-    alloc: Global,
-    disk: MemoryDisk,
-    changes: u64,
-    choice: Option<u8>,
-) -> Result<(), Fail> {
-    check_on(
-        alloc,
-        left(stopped(alloc, disk, changes)?, choice)?,
-        "positions 0; verify 0; compact; positions 0; verify 0",
-        "positions 0 64 64; verified 1; compacted; positions 0 64 64; verified 1",
-    )?;
-    Ok(())
+/// A disk with an archive of this version, in which a frame is recorded.
+fn of_version(alloc: Global, version: u8) -> Result<MemoryDisk, Fail> {
+    if version == 1 {
+        of_version_1(alloc)
+    } else {
+        recorded(alloc, MemoryDisk::new(alloc))
+    }
 }
 
-/// The disk as it is, and three crashes.
-pub const CHOICES: [Option<u8>; 4] = [None, Some(0), Some(1), Some(255)];
+/// Fails where the archive of such a disk does not open behind a compaction that stops, says another thing, or is not compacted.
+fn check_stopped(alloc: Global, version: u8, changes: u64, choice: Option<u8>) -> Result<(), Fail> {
+    check_over(
+        alloc,
+        left(
+            stopped(alloc, of_version(alloc, version)?, changes)?,
+            choice,
+        )?,
+        "positions 0; verify 0; compact; positions 0; verify 0",
+        "positions 0 64 64; verified 1; compacted; positions 0 64 64; verified 1",
+    )
+}
+
+/// The same wherever the disk stops, as it is then, and after three crashes.
+pub fn check_each_stop(alloc: Global, version: u8) -> Result<(), Fail> {
+    for changes in 0..20 {
+        for choice in [None, Some(0), Some(1), Some(255)] {
+            check_stopped(alloc, version, changes, choice)?;
+        }
+    }
+    Ok(())
+}
 
 /// Wherever the disk stops, and after each crash then, the archive opens, says the same, and is compacted.
 #[test]
 fn a_compaction_that_stops(rt: HostRuntime) -> Result<(), Fail> {
-    for changes in 0..20 {
-        for choice in CHOICES {
-            let disk = recorded(rt.alloc(), MemoryDisk::new(rt.alloc()))?;
-            check_stopped(rt.alloc(), disk, changes, choice)?;
-        }
-    }
-    Ok(())
+    check_each_stop(rt.alloc(), 2)
 }
 
 /// The disk behind the command, or why that ended early.
 fn compact<W: Write>(alloc: Global, disk: MemoryDisk, out: &mut W) -> Result<MemoryDisk, Stop> {
     match compact_archive(alloc, disk, out, &mut Unobserved) {
         Ok(disk) => Ok(disk),
-        Err(CommandFault { why, disk: _ }) => Err(why),
+        Err(CommandFault { why, disk }) => {
+            drop(disk);
+            Err(why)
+        }
     }
 }
 
@@ -202,8 +218,7 @@ fn compacted(alloc: Global, disk: MemoryDisk) -> Result<(Vec<u8>, MemoryDisk), F
 /// The disk behind the command; fails where that writes another text.
 fn behind_the_command(alloc: Global, disk: MemoryDisk) -> Result<MemoryDisk, Fail> {
     let (out, disk) = compacted(alloc, disk)?;
-    expect(out.as_slice(), "compacted\n")?;
-    Ok(disk)
+    with_disk(expect(out.as_slice(), "compacted\n"), disk)
 }
 
 /// `compact` prints `compacted`, stops the active recording, and keeps its frames.
@@ -211,13 +226,12 @@ fn behind_the_command(alloc: Global, disk: MemoryDisk) -> Result<MemoryDisk, Fai
 fn the_command_compacts(rt: HostRuntime) -> Result<(), Fail> {
     let disk = recorded(rt.alloc(), MemoryDisk::new(rt.alloc()))?;
     let disk = behind_the_command(rt.alloc(), disk)?;
-    check_on(
+    check_over(
         rt.alloc(),
         disk,
         "positions 0; verify 0",
         "positions 0 64 64; verified 1",
-    )?;
-    Ok(())
+    )
 }
 
 /// Why the command ended early over a disk and a writer that takes nothing.
@@ -236,7 +250,7 @@ fn the_command_ends_early(rt: HostRuntime) -> Result<(), Fail> {
 }
 
 /// Keeps what it was told last of a history, and how often.
-#[derive(Drop)]
+#[derive(Clone, Copy)]
 struct Counting {
     last: HistoryUse,
     times: u32,
@@ -249,15 +263,10 @@ impl Observer for Counting {
     }
 }
 
-/// What is told of a history of three entries by a script that starts and stops a recording.
-fn told_of_history(alloc: Global, counting: &mut Counting) -> Result<(), Fail> {
+/// Tells of a history of three entries by a script that starts and stops a recording. Whether that was answered to its end.
+fn tells_of_history(alloc: Global, disk: MemoryDisk, counting: &mut Counting) -> bool {
     let lines = b"start 1001 7 42 65536 1408 131072 0 1000 c\nstop 0 1\nlist 0 1\n".as_slice();
-    let disk = with_short_history(alloc)?;
-    let mut out = Vec::new(alloc);
-    match behind(alloc, lines, &mut out, disk, counting) {
-        Ok(_) => Ok(()),
-        Err(_) => Err(Fail::new("the script ended early")),
-    }
+    behind(alloc, lines, &mut Vec::new(alloc), disk, counting).is_ok()
 }
 
 /// How full the history is, is reported at the opening and after each line.
@@ -270,7 +279,8 @@ fn a_history_that_fills_up(rt: HostRuntime) -> Result<(), Fail> {
         },
         times: 0,
     };
-    told_of_history(rt.alloc(), &mut counting)?;
+    let disk = with_short_history(rt.alloc())?;
+    assert!(rt; tells_of_history(rt.alloc(), disk, &mut counting));
     assert!(rt; counting.times == 4 && counting.last.counted == 2 && counting.last.limit == 3);
     let text = counting.last.to_string(rt.alloc())?;
     assert!(rt; text.as_str() == "2 of the 3 entries of the history are used, 1 are left");

@@ -1,7 +1,7 @@
 //! Scripts and looks over segment files that are damaged, with a recording beside that is active: docs/STORAGE.md, "Damaged
 //! frames" and "Boundaries".
 
-use super::scenarios::check_on;
+use super::scenarios::{check_on, check_over, with_disk};
 use super::views::{check_listed, check_verified};
 use archive_commands::Verdict;
 use disk_core::{Disk, FileId, MemoryDisk};
@@ -33,28 +33,26 @@ enum Damage {
     Gone,
 }
 
-/// The disk, on which a recording's file is damaged and synced.
-fn damaged(alloc: Global, recording: i64, how: Damage) -> Result<MemoryDisk, Fail> {
-    let mut disk = recorded(alloc)?;
+/// Damages a recording's file, and syncs it.
+fn do_damage(disk: &mut MemoryDisk, recording: i64, how: Damage) -> Result<(), Fail> {
     let file = FileId::Segment { recording, base: 0 };
     match how {
         Damage::Cut(left) => disk.cut(file, left)?,
         Damage::Cleared(offset) => disk.write_at(file, offset, &[0])?,
         Damage::Gone => disk.remove(file)?,
     }
-    disk.sync(file)?;
-    Ok(disk)
+    Ok(disk.sync(file)?)
+}
+
+/// The disk, on which a recording's file is damaged and synced.
+fn damaged(alloc: Global, recording: i64, how: Damage) -> Result<MemoryDisk, Fail> {
+    let mut disk = recorded(alloc)?;
+    with_disk(do_damage(&mut disk, recording, how), disk)
 }
 
 /// Runs the lines as one script over the archive of such a disk, and fails where the replies are others.
-fn check(
-    alloc: Global,
-    recording: i64,
-    how: Damage,
-    lines: &str,
-    told: &str,
-) -> Result<MemoryDisk, Fail> {
-    check_on(alloc, damaged(alloc, recording, how)?, lines, told)
+fn check(alloc: Global, recording: i64, how: Damage, lines: &str, told: &str) -> Result<(), Fail> {
+    check_over(alloc, damaged(alloc, recording, how)?, lines, told)
 }
 
 /// A script over an archive with one damaged recording is answered Damaged where it reads the damage, and as usual
@@ -92,8 +90,7 @@ fn a_whole_term_past_damage(rt: HostRuntime) -> Result<(), Fail> {
         "extended 0; replay 0; frame 65536 HELLO_IN_NEXT_TERM; done; replay 1; done; error 5 BadPosition; \
         error 15 Damaged 0 0; settled 192; closed; closed; error 5 BadPosition; error 15 Damaged 0 0; \
         truncated 65536; error 15 Damaged 0 0; truncated 0; verified 0; positions 0 192 -1",
-    )?;
-    Ok(())
+    )
 }
 
 /// Of a recording that begins in the middle of a term the start is a boundary, and what follows in that term is past the
@@ -118,16 +115,15 @@ fn a_first_term_that_is_damaged(rt: HostRuntime) -> Result<(), Fail> {
 
 /// Commands over damage, and another script that finds them.
 fn commands(alloc: Global, how: Damage) -> Result<(), Fail> {
-    let disk = check(
+    let disk = check_on(
         alloc,
-        0,
-        how,
+        damaged(alloc, 0, how)?,
         "extend 0 1001 7 42 65536 1408 65600; start 1001 7 42 65536 1408 131072 0 1000 f; block 1 HELLO_AT_0; verify 0; \
         verify 3; truncate 0 65536; stop 0 3000; truncate 0 65536; purge 1; sweep; sweep; block 1 HELLO_AT_64; positions 0",
         "extended 0; started 3 1; settled 64; error 15 Damaged 0 0; verified 1; error 2 ActiveRecording; stopped 65600; \
         truncated 65536; purged-recording; swept 1; swept 0; settled 128; positions 0 65536 65536",
     )?;
-    check_on(
+    check_over(
         alloc,
         disk,
         "list 0 9; verify 0; verify 2; verify 3; purge 0; sweep; start 1001 7 42 65536 1408 131072 0 1000 g",
@@ -135,8 +131,7 @@ fn commands(alloc: Global, how: Damage) -> Result<(), Fail> {
         recording 2 1000 -1 65472 65600 42 131072 65536 1408 7 1001 e; \
         recording 3 1000 -1 0 128 42 131072 65536 1408 7 1001 f; end 3; error 15 Damaged 0 0; verified 2; verified 2; \
         purged-recording; swept 1; started 4 0",
-    )?;
-    Ok(())
+    )
 }
 
 /// What is commanded over damage is there for another script.
@@ -168,21 +163,21 @@ fn reopened_and_compacted_over_damage(rt: HostRuntime) -> Result<(), Fail> {
     Ok(())
 }
 
+/// Fails where what is verified or listed of the archive of a damaged disk is another text.
+fn looks(alloc: Global, how: Damage, verified: &str, listed: &str) -> Result<(), Fail> {
+    check_verified(alloc, damaged(alloc, 0, how)?, verified, Verdict::Refused)?;
+    check_listed(alloc, damaged(alloc, 0, how)?, listed)
+}
+
 /// A look tells the damage of one recording and verifies the others, which are active.
 #[test]
 fn looks_over_damage(rt: HostRuntime) -> Result<(), Fail> {
+    let verified = "error 15 Damaged 0 0\nverified 2\nverified 2\n";
+    let listed = "recording 0 1000 2000 0 65600 42 131072 65536 1408 7 1001 c\n\
+        recording 1 1000 -1 0 -1 42 131072 65536 1408 7 1001 d\n\
+        recording 2 1000 -1 65472 -1 42 131072 65536 1408 7 1001 e\nend 3\n";
     for how in [Damage::Cut(31), Damage::Cleared(2), Damage::Gone] {
-        let told = "error 15 Damaged 0 0\nverified 2\nverified 2\n";
-        check_verified(
-            rt.alloc(),
-            damaged(rt.alloc(), 0, how)?,
-            told,
-            Verdict::Refused,
-        )?;
-        let told = "recording 0 1000 2000 0 65600 42 131072 65536 1408 7 1001 c\n\
-            recording 1 1000 -1 0 -1 42 131072 65536 1408 7 1001 d\n\
-            recording 2 1000 -1 65472 -1 42 131072 65536 1408 7 1001 e\nend 3\n";
-        check_listed(rt.alloc(), damaged(rt.alloc(), 0, how)?, told)?;
+        looks(rt.alloc(), how, verified, listed)?;
     }
     Ok(())
 }

@@ -1,7 +1,6 @@
 //! What no clause says: that lines are read while there is memory, and what a failing input leads to.
 
-use super::scenarios::{expect, replies};
-use disk_core::MemoryDisk;
+use super::scenarios::{answers, expect};
 use std::alloc::Global;
 use std::io::{BufRead, BufReader, Error, ErrorKind, Read};
 use std::test::*;
@@ -125,7 +124,7 @@ fn too_long(alloc: Global) -> Result<Vec<u8>, Fail> {
 fn a_line_that_is_too_long_is_bad(rt: HostRuntime) -> Result<(), Fail> {
     let input = too_long(rt.alloc())?;
     let script = std::str::from_utf8(input.as_slice())?;
-    let (out, _) = replies(rt.alloc(), MemoryDisk::new(rt.alloc()), script)?;
+    let out = answers(rt.alloc(), script)?;
     expect(out.as_slice(), "error 22 BadLine\nend 0\n")
 }
 

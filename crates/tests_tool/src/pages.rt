@@ -1,5 +1,6 @@
 //! What `describe` tells of the archives of disks: docs/CONTROL.md, "A page for people".
 
+use super::scenarios::{expect, with_disk};
 use super::views::{SCRIPT, after};
 use archive_report::{Form, Moment, describe_archive};
 use disk_core::{Disk, FileId, MemoryDisk};
@@ -7,13 +8,18 @@ use std::alloc::Global;
 use std::test::*;
 use tool_core::Unobserved;
 
-/// The disk behind a script, with a file more behind its recording's end, and one of no recording.
-fn with_further_files(alloc: Global) -> Result<MemoryDisk, Fail> {
-    let mut disk = after(alloc, SCRIPT)?;
+/// Adds two files of a byte.
+fn add_files(disk: &mut MemoryDisk) -> Result<(), Fail> {
     for (recording, base) in [(0, 131_072), (7, 0)] {
         disk.write_at(FileId::Segment { recording, base }, 0, &[0])?;
     }
-    Ok(disk)
+    Ok(())
+}
+
+/// The disk behind a script, with a file more behind its recording's end, and one of no recording.
+fn with_further_files(alloc: Global) -> Result<MemoryDisk, Fail> {
+    let mut disk = after(alloc, SCRIPT)?;
+    with_disk(add_files(&mut disk), disk)
 }
 
 /// Fails where the description of the archive of a disk is another.
@@ -33,10 +39,7 @@ fn check_asked(
     if describe_archive(alloc, disk, asked, form, &mut out, &mut Unobserved).is_err() {
         return Err(Fail::new("the description ended early"));
     }
-    if out.as_slice() == told.as_bytes() {
-        return Ok(());
-    }
-    Err(Fail::new(String::from_str(alloc, std::str::from_utf8(out.as_slice())?)?))
+    expect(out.as_slice(), told)
 }
 
 /// `describe` prints each recording, the archive's sums, and files that are stale or unknown, on a page for people.
@@ -77,21 +80,22 @@ fn a_page(rt: HostRuntime) -> Result<(), Fail> {
     )
 }
 
+/// Removes the file of one recording, and cuts that of the other.
+fn damage(disk: &mut MemoryDisk) -> Result<(), Fail> {
+    let (first, second) = (segment_of(0), segment_of(1));
+    disk.remove(first)?;
+    Ok(disk.cut(second, 40)?)
+}
+
+/// The first file of a recording.
+fn segment_of(recording: i64) -> FileId {
+    FileId::Segment { recording, base: 0 }
+}
+
 /// The disk behind a script, on which the file of one recording is gone, and that of the other is cut.
 fn with_damage(alloc: Global) -> Result<MemoryDisk, Fail> {
     let mut disk = after(alloc, SCRIPT)?;
-    disk.remove(FileId::Segment {
-        recording: 0,
-        base: 0,
-    })?;
-    disk.cut(
-        FileId::Segment {
-            recording: 1,
-            base: 0,
-        },
-        40,
-    )?;
-    Ok(disk)
+    with_disk(damage(&mut disk), disk)
 }
 
 /// A page has what the catalogue says of a recording, and how many bytes there are of its files.
@@ -203,6 +207,17 @@ fn stopped_at(alloc: Global, timestamp: &str) -> Result<MemoryDisk, Fail> {
     after(alloc, lines.as_str())
 }
 
+/// Fails where the page of a recording that was stopped at this time has another date.
+fn check_stopped(alloc: Global, timestamp: &str, told: &str) -> Result<(), Fail> {
+    let page = format!(in alloc;
+        "recording 0, stopped\n  channel    c\n  stream     1001\n  session    7\n  started    1970-01-01T00:00:01Z\n  \
+        stopped    {told}\n  positions  0 to 0\n  recorded   0 bytes\n  on disk    0 bytes in 0 segment files\n  \
+        lengths    term 65536, segment 131072, MTU 1408\n\n"
+    )?;
+    let disk = stopped_at(alloc, timestamp)?;
+    check_asked(alloc, disk, Some(0), Form::Page, page.as_str())
+}
+
 /// A stop before its start is taken, and has no date.
 #[test]
 fn a_stop_before_its_start(rt: HostRuntime) -> Result<(), Fail> {
@@ -211,13 +226,7 @@ fn a_stop_before_its_start(rt: HostRuntime) -> Result<(), Fail> {
         ("0", "0 (before its start)"),
         ("1000", "1970-01-01T00:00:01Z"),
     ] {
-        let page = format!(in rt.alloc();
-            "recording 0, stopped\n  channel    c\n  stream     1001\n  session    7\n  started    1970-01-01T00:00:01Z\n  \
-            stopped    {told}\n  positions  0 to 0\n  recorded   0 bytes\n  on disk    0 bytes in 0 segment files\n  \
-            lengths    term 65536, segment 131072, MTU 1408\n\n"
-        )?;
-        let disk = stopped_at(rt.alloc(), timestamp)?;
-        check_asked(rt.alloc(), disk, Some(0), Form::Page, page.as_str())?;
+        check_stopped(rt.alloc(), timestamp, told)?;
     }
     check_asked(
         rt.alloc(),

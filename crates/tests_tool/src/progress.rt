@@ -75,8 +75,11 @@ fn see<V: Viewer<MemoryDisk>>(viewer: &mut V, file: FileId, count: u64) {
 }
 
 /// The files of a disk.
-fn listed(alloc: Global, disk: &mut MemoryDisk) -> Result<ListedFiles, Fail> {
-    match ListedFiles::of(alloc, disk) {
+fn listed(alloc: Global, disk: MemoryDisk) -> Result<ListedFiles, Fail> {
+    let mut disk = disk;
+    let files = ListedFiles::of(alloc, &mut disk);
+    drop(disk);
+    match files {
         Some(files) => Ok(files),
         None => Err(Fail::new("the files were not listed")),
     }
@@ -84,8 +87,7 @@ fn listed(alloc: Global, disk: &mut MemoryDisk) -> Result<ListedFiles, Fail> {
 
 /// The files of an archive with two recordings.
 fn two_listed(alloc: Global) -> Result<ListedFiles, Fail> {
-    let mut disk = two_recordings(alloc)?;
-    listed(alloc, &mut disk)
+    listed(alloc, two_recordings(alloc)?)
 }
 
 /// How often something was printed, and whether the awaited text was, while so many bytes of a file are read; and how often
@@ -151,7 +153,7 @@ fn an_opening_is_shown_once_it_lasts(rt: HostRuntime) {
 /// Nothing is written of the catalogue's banks by a verification, and no line is cleared that was not written.
 #[test]
 fn banks_are_not_shown(rt: HostRuntime) -> Result<(), Fail> {
-    let files = listed(rt.alloc(), &mut MemoryDisk::new(rt.alloc()))?;
+    let files = listed(rt.alloc(), MemoryDisk::new(rt.alloc()))?;
     let desktop = Desktop::new(rt.alloc(), "");
     let printed = printed(&desktop, files, FileId::BankA);
     assert!(rt; printed == (0, false, 0));
@@ -183,8 +185,10 @@ fn bytes_verified(alloc: Global) -> Result<Option<u64>, Fail> {
     let disk = Watched::new(two_recordings(alloc)?, Some(Counter { bytes: 0 }));
     let mut engine = opened(alloc, disk)?;
     let told = "verified 2\nverified 1\n";
-    check_archive(alloc, &mut engine, told, Verdict::Whole)?;
-    Ok(bytes_told(engine))
+    let checked = check_archive(alloc, &mut engine, told, Verdict::Whole);
+    let bytes = bytes_told(engine);
+    checked?;
+    Ok(bytes)
 }
 
 /// A watched disk gives what it gives unwatched, and its viewer gets each frame's bytes.

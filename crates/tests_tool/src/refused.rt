@@ -1,11 +1,10 @@
 //! Requests for memory that are refused in a script: `trials/refused_memory.py tests` runs the test once for each of its requests,
 //! which it refuses. docs/CONTROL.md, "Refusals".
 
+use super::disks::created;
 use super::scenarios::behind;
 use disk_core::MemoryDisk;
-use engine_core::Engine;
 use std::alloc::{AllocError, Global};
-use std::process::Abort;
 use tool_core::Unobserved;
 
 // A script that makes each change of an archive.
@@ -67,15 +66,16 @@ fn replies(alloc: Global, disk: MemoryDisk, script: &str) -> Option<(Vec<u8>, Me
 /// The same of the script without a line, over a new archive.
 fn run_without(alloc: Global, left_out: usize) -> Option<(Vec<u8>, MemoryDisk)> {
     let script = script_without(alloc, left_out).ok()?;
-    match Engine::create(alloc, MemoryDisk::new(alloc), 64) {
-        Ok(engine) => replies(alloc, engine.into_disk(), script.as_str()),
-        Err(_) => None,
+    match created(alloc, 64) {
+        Some(disk) => replies(alloc, disk, script.as_str()),
+        None => None,
     }
 }
 
 /// The recordings and how many frames there are.
 fn found(alloc: Global, disk: MemoryDisk) -> Option<Vec<u8>> {
-    let (out, _) = replies(alloc, disk, "list 0 9\nverify 0\n")?;
+    let (out, disk) = replies(alloc, disk, "list 0 9\nverify 0\n")?;
+    drop(disk);
     Some(out)
 }
 
@@ -96,46 +96,62 @@ fn text_without(alloc: Global, text: &str, left_out: usize) -> Result<Vec<u8>, A
     Ok(rest)
 }
 
-/// A script of which this line found no memory has answered the others, and left the archive, as if the line were not there.
-fn check_refused(
-    rt: &impl Abort,
-    alloc: Global,
-    text: &str,
-    disk: MemoryDisk,
-    line: usize,
-) -> Option<()> {
-    let (out, without) = run_without(alloc, line)?;
+/// Whether an answered text is this one without the line of this number.
+fn is_without(alloc: Global, answered: &[u8], text: &str, line: usize) -> Option<bool> {
     let rest = text_without(alloc, text, line).ok()?;
-    assert!(rt; rest == out && disk.changes() == without.changes());
-    let is_same = found(alloc, disk)? == found(alloc, without)?;
-    assert!(rt; is_same);
-    Some(())
+    Some(rest.as_slice() == answered)
 }
 
-/// A script that found no memory at the opening, or by its disk, leaves an archive that is opened.
-fn check_fault(rt: &impl Abort, alloc: Global, text: &str, disk: MemoryDisk) -> Option<()> {
-    assert!(rt;
-        text.starts_with("error 16 Broken\n") || place_of(text, "error 17 DeviceFault").is_some()
-    );
+/// Whether two disks have taken as many changes, and have the same recordings and frames.
+fn are_alike(alloc: Global, disk: MemoryDisk, other: MemoryDisk) -> Option<bool> {
+    let is_counted = disk.changes() == other.changes();
+    match (found(alloc, disk), found(alloc, other)) {
+        (Some(here), Some(there)) => Some(is_counted && here == there),
+        _ => None,
+    }
+}
+
+/// Whether a script of which this line found no memory has answered the others, and left the archive, as if the line were not
+/// there.
+fn is_refused(alloc: Global, text: &str, disk: MemoryDisk, line: usize) -> Option<bool> {
+    let (out, other) = run_without(alloc, line)?;
+    let is_answered = is_without(alloc, out.as_slice(), text, line);
+    let is_left = are_alike(alloc, disk, other);
+    Some(is_answered? && is_left?)
+}
+
+/// Whether a script that found no memory at the opening, or by its disk, leaves an archive that is opened.
+fn is_fault(alloc: Global, text: &str, disk: MemoryDisk) -> Option<bool> {
+    let is_told = text.starts_with("error 16 Broken\n")
+        || place_of(text, "error 17 DeviceFault").is_some();
     let out = found(alloc, disk)?;
-    assert!(rt; !out.as_slice().starts_with(b"error 16 Broken\n"));
-    Some(())
+    Some(is_told && !out.as_slice().starts_with(b"error 16 Broken\n"))
 }
 
-/// Runs the script; none if it ended early, or something else than it found no memory.
-fn runs(rt: &impl Abort, alloc: Global) -> Option<()> {
-    let (out, disk) = run_without(alloc, LINES.len())?;
-    let text = std::str::from_utf8(out.as_slice()).ok()?;
+/// Whether a script was answered as it has to be, and left such a disk.
+fn is_right(alloc: Global, text: &str, disk: MemoryDisk) -> Option<bool> {
     match place_of(text, "error 18 NoMemory") {
-        _ if text == REPLIES => Some(()),
-        Some(line) => check_refused(rt, alloc, text, disk, line),
-        None => check_fault(rt, alloc, text, disk),
+        _ if text == REPLIES => Some(true),
+        Some(line) => is_refused(alloc, text, disk, line),
+        None => is_fault(alloc, text, disk),
+    }
+}
+
+/// Runs the script, and says whether that went as it has to; none if it ended early, or something else than it found no memory.
+fn runs(alloc: Global) -> Option<bool> {
+    let (out, disk) = run_without(alloc, LINES.len())?;
+    match std::str::from_utf8(out.as_slice()) {
+        Ok(text) => is_right(alloc, text, disk),
+        Err(_) => Some(false),
     }
 }
 
 /// A line that is refused memory is answered NoMemory, and the script goes on as if that line were not there.
 #[test]
 fn refused_memory_of_a_script(rt: HostRuntime) {
-    let is_run = runs(&rt, rt.alloc()).is_some() || runs(&rt, rt.alloc()).is_some();
+    let is_run = match runs(rt.alloc()) {
+        Some(is_right) => is_right,
+        None => runs(rt.alloc()) == Some(true),
+    };
     assert!(rt; is_run);
 }

@@ -1,6 +1,6 @@
 //! What `list` and `verify` tell of the archives of disks: docs/CONTROL.md, "The program".
 
-use super::scenarios::{check_on, expect};
+use super::scenarios::{check_on, expect, with_disk};
 use archive_commands::{Verdict, Verifiable, list_recordings, verify_recordings};
 use disk_core::{Disk, FileId, MemoryDisk};
 use engine_core::Engine;
@@ -19,13 +19,17 @@ pub fn two_recordings(alloc: Global) -> Result<MemoryDisk, Fail> {
     )
 }
 
-/// The first byte of a recording's first file is 0, and synced.
-pub fn damaged(disk: MemoryDisk, recording: i64) -> Result<MemoryDisk, Fail> {
-    let mut disk = disk;
+/// Writes 0 as the first byte of a recording's first file, and syncs it.
+fn clear(disk: &mut MemoryDisk, recording: i64) -> Result<(), Fail> {
     let file = FileId::Segment { recording, base: 0 };
     disk.write_at(file, 0, &[0])?;
-    disk.sync(file)?;
-    Ok(disk)
+    Ok(disk.sync(file)?)
+}
+
+/// The disk with a first file of a recording that was damaged so.
+pub fn damaged(disk: MemoryDisk, recording: i64) -> Result<MemoryDisk, Fail> {
+    let mut disk = disk;
+    with_disk(clear(&mut disk, recording), disk)
 }
 
 /// The archive of a disk.
@@ -45,10 +49,17 @@ fn listed<D: Disk>(alloc: Global, engine: &Engine<D>) -> Result<Vec<u8>, Fail> {
     }
 }
 
+/// The same of the archive of a disk.
+fn listed_on(alloc: Global, disk: MemoryDisk) -> Result<Vec<u8>, Fail> {
+    let engine = opened(alloc, disk)?;
+    let out = listed(alloc, &engine);
+    drop(engine);
+    out
+}
+
 /// Fails with what `list` tells of the archive of a disk, where it is another text.
 fn check_listed(alloc: Global, disk: MemoryDisk, told: &str) -> Result<(), Fail> {
-    let engine = opened(alloc, disk)?;
-    let out = listed(alloc, &engine)?;
+    let out = listed_on(alloc, disk)?;
     expect(out.as_slice(), told)
 }
 
@@ -85,7 +96,9 @@ fn check_verified(
     verdict: Verdict,
 ) -> Result<(), Fail> {
     let mut engine = opened(alloc, disk)?;
-    check_archive(alloc, &mut engine, told, verdict)
+    let checked = check_archive(alloc, &mut engine, told, verdict);
+    drop(engine);
+    checked
 }
 
 /// `list` prints each recording's descriptor, the stopped and the active one, and their count.

@@ -110,7 +110,11 @@ pub fn behind<R: Read + Drop, W: Write, O: Observer>(
 ) -> Result<MemoryDisk, EarlyEnd> {
     match run_script(alloc, reader, writer, disk, observer) {
         Ok(disk) => Ok(disk),
-        Err(fault) => Err(fault.into_parts().0),
+        Err(fault) => {
+            let (end, disk) = fault.into_parts();
+            drop(disk);
+            Err(end)
+        }
     }
 }
 
@@ -127,11 +131,34 @@ pub fn replies(
     }
 }
 
+/// What a script answers over an empty disk.
+pub fn answers(alloc: Global, script: &str) -> Result<Vec<u8>, Fail> {
+    let (out, disk) = replies(alloc, MemoryDisk::new(alloc), script)?;
+    drop(disk);
+    Ok(out)
+}
+
+/// The disk, unless something failed before.
+pub fn with_disk(done: Result<(), Fail>, disk: MemoryDisk) -> Result<MemoryDisk, Fail> {
+    match done {
+        Ok(()) => Ok(disk),
+        Err(fail) => {
+            drop(disk);
+            Err(fail)
+        }
+    }
+}
+
 /// Runs a script over the archive of a disk, fails where it is answered otherwise, and gives the disk then.
 fn play(alloc: Global, disk: MemoryDisk, script: &str, told: &str) -> Result<MemoryDisk, Fail> {
     let (out, disk) = replies(alloc, disk, script)?;
-    expect(out.as_slice(), told)?;
-    Ok(disk)
+    with_disk(expect(out.as_slice(), told), disk)
+}
+
+/// A script and its replies as texts.
+pub fn texts_of(alloc: Global, lines: &str, told: &str) -> Result<(String, String), Fail> {
+    let script = text_of(alloc, lines)?;
+    Ok((script, text_of(alloc, told)?))
 }
 
 /// Runs the lines as one script over the archive of a disk, fails where the replies are others, and gives the disk then.
@@ -141,15 +168,25 @@ pub fn check_on(
     lines: &str,
     told: &str,
 ) -> Result<MemoryDisk, Fail> {
-    let script = text_of(alloc, lines)?;
-    let told = text_of(alloc, told)?;
-    play(alloc, disk, script.as_str(), told.as_str())
+    match texts_of(alloc, lines, told) {
+        Ok((script, told)) => play(alloc, disk, script.as_str(), told.as_str()),
+        Err(fail) => {
+            drop(disk);
+            Err(fail)
+        }
+    }
+}
+
+/// The same, whose disk goes.
+pub fn check_over(alloc: Global, disk: MemoryDisk, lines: &str, told: &str) -> Result<(), Fail> {
+    let disk = check_on(alloc, disk, lines, told)?;
+    drop(disk);
+    Ok(())
 }
 
 /// The same on an empty disk.
 pub fn check(alloc: Global, lines: &str, told: &str) -> Result<(), Fail> {
-    check_on(alloc, MemoryDisk::new(alloc), lines, told)?;
-    Ok(())
+    check_over(alloc, MemoryDisk::new(alloc), lines, told)
 }
 
 /// A frame that is settled is replayed, byte for byte.
@@ -367,6 +404,12 @@ fn merge_lines_are_refused(rt: HostRuntime) -> Result<(), Fail> {
     )
 }
 
+/// Runs a script over an empty disk, and fails where it is answered otherwise.
+fn check_script(alloc: Global, script: &str, told: &str) -> Result<(), Fail> {
+    let out = answers(alloc, script)?;
+    expect(out.as_slice(), told)
+}
+
 /// An empty script, an empty line, a last line without a line feed and lines after `quit` are answered as docs/CONTROL.md
 /// says.
 #[test]
@@ -378,7 +421,7 @@ fn lines_at_the_edges_of_a_script(rt: HostRuntime) -> Result<(), Fail> {
         ("quit\nlist 0 0\n", "bye\n"),
         ("quit \nlist 0 0", "error 22 BadLine\nend 0\n"),
     ] {
-        play(rt.alloc(), MemoryDisk::new(rt.alloc()), script, told)?;
+        check_script(rt.alloc(), script, told)?;
     }
     Ok(())
 }

@@ -1,7 +1,7 @@
 //! Archives whose catalogue is of version 1, and what a compaction makes of them: docs/STORAGE.md, "Compaction".
 
-use super::compactions::{CHOICES, check_bank, check_stopped};
-use super::scenarios::check_on;
+use super::compactions::{check_bank, check_each_stop};
+use super::scenarios::{check, with_disk};
 use disk_core::{Disk, FileId, MemoryDisk};
 use std::alloc::Global;
 use std::test::*;
@@ -57,19 +57,23 @@ fn put(disk: &mut MemoryDisk, file: FileId, bytes: &[u8]) -> Result<(), Fail> {
     Ok(())
 }
 
-/// A disk with the archive of version 1: a recording with one frame, which is active.
-pub fn of_version_1(alloc: Global) -> Result<MemoryDisk, Fail> {
-    let mut disk = MemoryDisk::new(alloc);
+/// Puts an archive of version 1 on a disk: a recording with one frame, which is active.
+fn put_version_1(disk: &mut MemoryDisk) -> Result<(), Fail> {
     let segment = FileId::Segment {
         recording: 0,
         base: 0,
     };
     let mut stored = [0; 64];
     stored[..37].copy_from_slice(&HELLO);
-    put(&mut disk, FileId::BankA, &BANK)?;
-    put(&mut disk, FileId::BankB, &[0])?;
-    put(&mut disk, segment, &stored)?;
-    Ok(disk)
+    put(disk, FileId::BankA, &BANK)?;
+    put(disk, FileId::BankB, &[0])?;
+    put(disk, segment, &stored)
+}
+
+/// A disk with that archive.
+pub fn of_version_1(alloc: Global) -> Result<MemoryDisk, Fail> {
+    let mut disk = MemoryDisk::new(alloc);
+    with_disk(put_version_1(&mut disk), disk)
 }
 
 /// The bytes of that bank behind a restart, and then other ones.
@@ -81,59 +85,62 @@ fn restarted(alloc: Global, more: &[u8]) -> Result<Vec<u8>, Fail> {
     Ok(bytes)
 }
 
+/// Runs the lines, then looks for that bank behind a restart, and gives the disk.
+fn check_restarted(
+    alloc: Global,
+    disk: MemoryDisk,
+    lines: &str,
+    told: &str,
+    more: &[u8],
+) -> Result<MemoryDisk, Fail> {
+    let bytes = restarted(alloc, more)?;
+    check_bank(alloc, disk, lines, told, FileId::BankA, bytes.as_slice())
+}
+
 /// A source is refused until the catalogue is compacted, which keeps the recording and leaves the old bank.
 #[test]
 fn a_source_needs_a_compaction(rt: HostRuntime) -> Result<(), Fail> {
-    let disk = check_bank(
+    let disk = check_restarted(
         rt.alloc(),
         of_version_1(rt.alloc())?,
-        (
-            "reopen; start-from 127.0.0.1:40123 1001 7 42 65536 1408 131072 0 1000 c",
-            "reopened 0; error 23 NeedCompact",
-        ),
-        (FileId::BankA, &restarted(rt.alloc(), &RESTARTED[4..])?),
+        "reopen; start-from 127.0.0.1:40123 1001 7 42 65536 1408 131072 0 1000 c",
+        "reopened 0; error 23 NeedCompact",
+        &RESTARTED[4..],
     )?;
     let disk = check_bank(
         rt.alloc(),
         disk,
-        (
-            "compact; source 0; start-from 127.0.0.1:40123 1001 7 42 65536 1408 131072 0 1000 c; source 1; list 0 1",
-            "compacted; source 0; started 1 0; source 15 127.0.0.1:40123; \
-            recording 0 1000 -1 0 64 42 131072 65536 1408 7 1001 c; end 1",
-        ),
-        (FileId::BankB, &COMPACTED),
+        "compact; source 0; start-from 127.0.0.1:40123 1001 7 42 65536 1408 131072 0 1000 c; source 1; list 0 1",
+        "compacted; source 0; started 1 0; source 15 127.0.0.1:40123; \
+        recording 0 1000 -1 0 64 42 131072 65536 1408 7 1001 c; end 1",
+        FileId::BankB,
+        &COMPACTED,
     )?;
-    check_bank(
-        rt.alloc(),
-        disk,
-        ("verify 0", "verified 1"),
-        (FileId::BankA, &restarted(rt.alloc(), &RESTARTED[4..])?),
-    )?;
+    let disk = check_restarted(rt.alloc(), disk, "verify 0", "verified 1", &RESTARTED[4..])?;
+    drop(disk);
     Ok(())
 }
 
 /// A catalogue of version 1 goes on in it, and a full history comes after what it can't hold.
 #[test]
 fn version_1_goes_on(rt: HostRuntime) -> Result<(), Fail> {
-    check_bank(
+    let disk = check_restarted(
         rt.alloc(),
         of_version_1(rt.alloc())?,
-        (
-            "start 1001 7 42 65536 1408 131072 0 1000 c; start 1001 7 42 65536 1408 131072 0 1000 d; \
-            start-from s 1001 7 42 65536 1408 131072 0 1000 d; start-from s 1001 7 42 65537 1408 131072 0 1000 d",
-            "started 1 0; error 11 HistoryFull; error 23 NeedCompact; error 10 BadParameter",
-        ),
-        (FileId::BankA, &restarted(rt.alloc(), &STARTED)?),
+        "start 1001 7 42 65536 1408 131072 0 1000 c; start 1001 7 42 65536 1408 131072 0 1000 d; \
+        start-from s 1001 7 42 65536 1408 131072 0 1000 d; start-from s 1001 7 42 65537 1408 131072 0 1000 d",
+        "started 1 0; error 11 HistoryFull; error 23 NeedCompact; error 10 BadParameter",
+        &STARTED,
     )?;
+    drop(disk);
     Ok(())
 }
 
 /// A source stays over a purge of segments, a truncation, an extension, an opening and a compaction.
 #[test]
 fn a_source_stays(rt: HostRuntime) -> Result<(), Fail> {
-    check_on(
+    check(
         rt.alloc(),
-        MemoryDisk::new(rt.alloc()),
         "start-from 127.0.0.1:40123 1001 7 42 65536 1408 131072 0 1000 c; \
         block 0 0000010000c000000000000007000000e90300002a0000000000000000000000; \
         block 0 0000010000c000000000000007000000e90300002b0000000000000000000000; \
@@ -142,30 +149,22 @@ fn a_source_stays(rt: HostRuntime) -> Result<(), Fail> {
         "started 0 0; settled 65536; settled 131072; purged 1; source 15 127.0.0.1:40123; stopped 131072; truncated 131072; \
         source 15 127.0.0.1:40123; extended 1; source 15 127.0.0.1:40123; reopened 1; source 15 127.0.0.1:40123; compacted; \
         source 15 127.0.0.1:40123",
-    )?;
-    Ok(())
+    )
 }
 
 /// Of a recording that is not there a source is refused, and lines of another form are.
 #[test]
 fn no_source_is_told(rt: HostRuntime) -> Result<(), Fail> {
-    check_on(
+    check(
         rt.alloc(),
-        MemoryDisk::new(rt.alloc()),
         "source 5; source -1; source; start-from x",
         "error 1 UnknownRecording; error 1 UnknownRecording; error 22 BadLine; error 22 BadLine",
-    )?;
-    Ok(())
+    )
 }
 
 /// Wherever the disk stops, and after a crash there, the archive opens in the version that it has come to, says the same,
 /// and is compacted.
 #[test]
 fn a_migration_that_stops(rt: HostRuntime) -> Result<(), Fail> {
-    for changes in 0..20 {
-        for choice in CHOICES {
-            check_stopped(rt.alloc(), of_version_1(rt.alloc())?, changes, choice)?;
-        }
-    }
-    Ok(())
+    check_each_stop(rt.alloc(), 1)
 }

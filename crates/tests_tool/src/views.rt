@@ -1,7 +1,7 @@
 //! What `list --read-only` and `verify --read-only` tell of the archives of disks: docs/CONTROL.md, "Looking without a change".
 
 use super::reports::damaged;
-use super::scenarios::{expect, replies};
+use super::scenarios::{expect, replies, with_disk};
 use archive_commands::Verdict;
 use archive_report::{list_view, verify_view};
 use archive_view::{ArchiveView, ReadOnly};
@@ -32,10 +32,17 @@ fn listed(alloc: Global, disk: MemoryDisk) -> Result<(Vec<u8>, MemoryDisk), Fail
     }
 }
 
-/// Fails where the list of the archive of a disk is another text.
+/// Fails where the list of the archive of a disk is another text, and gives the disk.
+fn listed_so(alloc: Global, disk: MemoryDisk, told: &str) -> Result<MemoryDisk, Fail> {
+    let (out, disk) = listed(alloc, disk)?;
+    with_disk(expect(out.as_slice(), told), disk)
+}
+
+/// The same, whose disk goes.
 pub fn check_listed(alloc: Global, disk: MemoryDisk, told: &str) -> Result<(), Fail> {
-    let (out, _) = listed(alloc, disk)?;
-    expect(out.as_slice(), told)
+    let disk = listed_so(alloc, disk, told)?;
+    drop(disk);
+    Ok(())
 }
 
 /// Fails where the verifying of the archive of a disk tells another text or verdict.
@@ -58,13 +65,10 @@ pub fn check_verified(
 /// `list --read-only` shows an active recording as active, and does not stop it.
 #[test]
 fn an_active_recording_is_listed_as_active(rt: HostRuntime) -> Result<(), Fail> {
-    let told = b"recording 0 1000 2000 0 64 42 131072 65536 1408 7 1001 c\n\
+    let told = "recording 0 1000 2000 0 64 42 131072 65536 1408 7 1001 c\n\
         recording 1 1000 -1 0 -1 42 131072 65536 1408 7 1001 d\nend 2\n";
-    let (first, disk) = listed(rt.alloc(), after(rt.alloc(), SCRIPT)?)?;
-    assert!(rt; first.as_slice() == told.as_slice());
-    let (again, _) = listed(rt.alloc(), disk)?;
-    assert!(rt; again.as_slice() == told.as_slice());
-    Ok(())
+    let disk = listed_so(rt.alloc(), after(rt.alloc(), SCRIPT)?, told)?;
+    check_listed(rt.alloc(), disk, told)
 }
 
 /// `list --read-only` changes nothing on the disk.
@@ -73,7 +77,9 @@ fn nothing_is_changed(rt: HostRuntime) -> Result<(), Fail> {
     let disk = after(rt.alloc(), SCRIPT)?;
     let changes = disk.changes();
     let (_, disk) = listed(rt.alloc(), disk)?;
-    assert!(rt; disk.changes() == changes);
+    let is_unchanged = disk.changes() == changes;
+    drop(disk);
+    assert!(rt; is_unchanged);
     Ok(())
 }
 
@@ -92,40 +98,60 @@ fn damage_is_told(rt: HostRuntime) -> Result<(), Fail> {
     check_verified(rt.alloc(), disk, told, Verdict::Refused)
 }
 
+/// The archive of a disk that is only read, if there is one.
+fn view_of(alloc: Global, disk: MemoryDisk) -> Option<ArchiveView<MemoryDisk>> {
+    ArchiveView::open(alloc, ReadOnly::new(disk)).ok()
+}
+
 /// A disk without an archive is refused, and no archive is made on it.
 #[test]
-fn no_archive_is_refused(rt: HostRuntime) -> Result<(), Fail> {
-    let disk = ReadOnly::new(MemoryDisk::new(rt.alloc()));
-    assert!(rt; ArchiveView::open(rt.alloc(), disk).is_err());
-    Ok(())
+fn no_archive_is_refused(rt: HostRuntime) {
+    assert!(rt; view_of(rt.alloc(), MemoryDisk::new(rt.alloc())).is_none());
+}
+
+/// Whether a disk refuses each change, and takes a sync.
+fn refuses_changes(disk: &mut ReadOnly<MemoryDisk>) -> bool {
+    disk.write_at(FileId::BankA, 0, &[0]).is_err()
+        && disk.cut(FileId::BankA, 0).is_err()
+        && disk.remove(FileId::BankA).is_err()
+        && disk.sync(FileId::BankA).is_ok()
 }
 
 /// A disk that is only read refuses each change, counts these as faults, and takes a sync.
 #[test]
 fn a_disk_that_is_only_read_refuses_changes(rt: HostRuntime) -> Result<(), Fail> {
     let mut disk = ReadOnly::new(after(rt.alloc(), SCRIPT)?);
-    assert!(rt; disk.write_at(FileId::BankA, 0, &[0]).is_err());
-    assert!(rt; disk.cut(FileId::BankA, 0).is_err());
-    assert!(rt; disk.remove(FileId::BankA).is_err());
-    assert!(rt; disk.sync(FileId::BankA).is_ok());
-    assert!(rt; disk.faults() == 3);
+    let refuses = refuses_changes(&mut disk);
+    let faults = disk.faults();
+    drop(disk);
+    assert!(rt; refuses && faults == 3);
     Ok(())
 }
 
 /// Whether an entry past the closed gate of a disk's catalogue may have been answered, and then whether another follows it.
 fn hidden(alloc: Global, disk: MemoryDisk) -> Result<Option<bool>, Fail> {
-    let Ok(mut view) = ArchiveView::open(alloc, ReadOnly::new(disk)) else {
+    let Some(mut view) = view_of(alloc, disk) else {
         return Err(Fail::new("the archive is not seen"));
     };
-    let found = view.hidden_entry(alloc)?;
-    Ok(found.map(|entry| entry.is_followed))
+    let found = view.hidden_entry(alloc);
+    drop(view);
+    Ok(found?.map(|entry| entry.is_followed))
 }
 
-/// The disk with a gate of its catalogue closed, in the bank's bytes.
+/// Closes a gate in the bytes of a disk's bank.
+fn close_gate(disk: &mut MemoryDisk, gate: u64) -> Result<(), Fail> {
+    Ok(disk.write_at(FileId::BankA, gate, &[0])?)
+}
+
+/// The disk with a gate of its catalogue closed.
 fn with_closed_gate(disk: MemoryDisk, gate: u64) -> Result<MemoryDisk, Fail> {
     let mut disk = disk;
-    disk.write_at(FileId::BankA, gate, &[0])?;
-    Ok(disk)
+    with_disk(close_gate(&mut disk, gate), disk)
+}
+
+/// The same of the disk behind a script whose gate there is closed.
+fn hidden_past(alloc: Global, lines: &str, gate: u64) -> Result<Option<bool>, Fail> {
+    hidden(alloc, with_closed_gate(after(alloc, lines)?, gate)?)
 }
 
 // Gates of SCRIPT: the Starts at 32 and 89, the Settles at 146 and 166, the Stop at 186, and the closed one at 206.
@@ -142,20 +168,35 @@ fn an_entry_past_a_closed_gate(rt: HostRuntime) -> Result<(), Fail> {
         (active, 166, Some(false)),
         (active, 146, Some(true)),
     ] {
-        let disk = with_closed_gate(after(rt.alloc(), lines)?, gate)?;
-        assert!(rt; hidden(rt.alloc(), disk)? == told, "{gate}");
+        let hidden = hidden_past(rt.alloc(), lines, gate)?;
+        assert!(rt; hidden == told, "{gate}");
     }
     Ok(())
+}
+
+/// A disk whose last Settle stands past a closed gate.
+fn with_hidden_settle(alloc: Global) -> Result<MemoryDisk, Fail> {
+    let active = SCRIPT.strip_suffix("stop 0 2000\n").unwrap_or("");
+    with_closed_gate(after(alloc, active)?, 166)
+}
+
+/// Cuts a disk's bank to a length.
+fn cut_bank(disk: &mut MemoryDisk, length: u64) -> Result<(), Fail> {
+    Ok(disk.cut(FileId::BankA, length)?)
+}
+
+/// The same, which is cut off.
+fn with_cut_settle(alloc: Global) -> Result<MemoryDisk, Fail> {
+    let mut disk = with_hidden_settle(alloc)?;
+    with_disk(cut_bank(&mut disk, 185), disk)
 }
 
 /// A Settle that nothing follows, whose frames are damaged, and one that is cut off.
 #[test]
 fn a_settle_without_its_frames(rt: HostRuntime) -> Result<(), Fail> {
-    let active = SCRIPT.strip_suffix("stop 0 2000\n").unwrap_or("");
-    let disk = with_closed_gate(after(rt.alloc(), active)?, 166)?;
-    assert!(rt; hidden(rt.alloc(), damaged(disk, 1)?)?.is_none());
-    let mut disk = with_closed_gate(after(rt.alloc(), active)?, 166)?;
-    disk.cut(FileId::BankA, 185)?;
-    assert!(rt; hidden(rt.alloc(), disk)?.is_none());
+    let hidden_entry = hidden(rt.alloc(), damaged(with_hidden_settle(rt.alloc())?, 1)?)?;
+    assert!(rt; hidden_entry.is_none());
+    let hidden_entry = hidden(rt.alloc(), with_cut_settle(rt.alloc())?)?;
+    assert!(rt; hidden_entry.is_none());
     Ok(())
 }
