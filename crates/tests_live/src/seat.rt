@@ -8,7 +8,7 @@ use call_history::Pass;
 use control_core::Event;
 use control_lines::{Line, parse_line, print_refusal, print_reply};
 use disk_core::Disk;
-use frame_core::{Refusal, block_of};
+use frame_core::{Block, Geometry, Refusal, block_of};
 use std::alloc::Global;
 use std::marker::PhantomData;
 use std::process::Abort;
@@ -89,9 +89,19 @@ impl<A: Naming> Seat<A> {
         session: i64,
         bytes: &[u8],
     ) -> Result<Reply, Refusal> {
-        let terms = archive.terms(rt, &mut self.pass, &session)?;
-        let block = block_of(alloc, &terms, bytes)?;
+        let terms = self.terms(rt, archive, &session)?;
+        let block = read(alloc, &terms, bytes)?;
         self.call(rt, alloc, archive, &Event::Write { session, block })
+    }
+
+    /// The terms of a session.
+    fn terms<D: Disk, R: Wait>(
+        &mut self,
+        rt: &R,
+        archive: &SharedArchive<D, A>,
+        session: &i64,
+    ) -> Result<Geometry, Refusal> {
+        archive.terms(rt, &mut self.pass, session)
     }
 
     fn record<D: Disk, R: Wait>(
@@ -168,6 +178,11 @@ impl<A: Naming> Seat<A> {
         );
         Ok(())
     }
+}
+
+/// The block of bytes, by the terms of their session.
+fn read(alloc: Global, terms: &Geometry, bytes: &[u8]) -> Result<Block, Refusal> {
+    block_of(alloc, terms, bytes)
 }
 
 /// What is told of an answer.
