@@ -122,16 +122,31 @@ fn reader(rt: &impl Abort, alloc: Global, disk: MemoryDisk) -> Result<Reader, Re
     Ok(SettledReader::new(disk, pages, Cursor::new(known, replay)))
 }
 
-/// Where the frames begin that a turn hands on.
-fn turned(alloc: Global, reader: &mut Reader, seen: i64) -> Result<Vec<i64>, Refusal> {
+/// How many frames a turn hands on.
+fn turned(alloc: Global, reader: &mut Reader, seen: i64) -> Result<usize, Refusal> {
     let mut taker = Headed {
         found: Vec::new(alloc),
     };
     reader.turn(alloc, seen, 1_000, &mut taker)?;
-    Ok(taker.found)
+    Ok(taker.found.len())
 }
 
-/// How many frames two turns hand on, each up to a position that was seen, and up to where the disk was asked for bytes.
+/// How many frames two turns hand on, each up to a position that was seen.
+fn turned_twice(
+    rt: &impl Abort,
+    alloc: Global,
+    reader: &mut Reader,
+    first: i64,
+    second: i64,
+) -> Result<(usize, usize), Refusal> {
+    let one = turned(alloc, reader, first)?;
+    assert!(rt; reader.next_position() == first && reader.is_done(false) && !reader.is_done(true));
+    let two = turned(alloc, reader, second)?;
+    assert!(rt; reader.next_position() == second);
+    Ok((one, two))
+}
+
+/// The same of a reader, and up to where its disk was asked for bytes.
 fn counted(
     rt: &impl Abort,
     alloc: Global,
@@ -139,10 +154,7 @@ fn counted(
     second: i64,
 ) -> Result<(usize, usize, u64), Refusal> {
     let mut reader = reader(rt, alloc, stored(rt, alloc, 2)?.disk)?;
-    let one = turned(alloc, &mut reader, first)?.len();
-    assert!(rt; reader.next_position() == first && reader.is_done(false) && !reader.is_done(true));
-    let two = turned(alloc, &mut reader, second)?.len();
-    assert!(rt; reader.next_position() == second);
+    let (one, two) = turned_twice(rt, alloc, &mut reader, first, second)?;
     let (disk, cursor) = reader.into_parts();
     assert!(rt; cursor.known().recorded == second && cursor.replay().next == second);
     Ok((one, two, disk.end))
@@ -160,22 +172,29 @@ fn nothing_past_the_look_is_read(rt: HostRuntime) -> Result<(), Fail> {
         (8_160, 8_256, 85, 1),
         (96, END, 1, 129),
     ] {
-        let (given, more, end) = counted(&rt, rt.alloc(), first, second)?;
-        assert!(rt; (given, more) == (one, two), "{first}");
-        assert!(rt; end == second as u64, "{second}");
+        assert!(rt;
+            counted(&rt, rt.alloc(), first, second)? == (one, two, second as u64),
+            "{first} {second}"
+        );
     }
     Ok(())
 }
 
-/// Reads of which this one fails: the turn is refused, and the next one hands on all frames.
+/// A turn of which a read fails is refused, and the next one hands on all frames.
+fn check_fault(rt: &impl Abort, alloc: Global, reader: &mut Reader) -> Result<(), Refusal> {
+    assert!(rt; turned(alloc, reader, END) == Err(Refusal::DeviceFault));
+    assert!(rt; reader.next_position() == 0 && !reader.is_done(false));
+    assert!(rt; turned(alloc, reader, END)? == 130);
+    Ok(())
+}
+
+/// Reads of which this one fails.
 fn fails(rt: &impl Abort, alloc: Global, call: u64) -> Result<(), Refusal> {
     let mut disk = stored(rt, alloc, 2)?.disk;
     let changes = disk.changes();
     disk.fail_at(call);
     let mut reader = reader(rt, alloc, disk)?;
-    assert!(rt; turned(alloc, &mut reader, END).err() == Some(Refusal::DeviceFault));
-    assert!(rt; reader.next_position() == 0 && !reader.is_done(false));
-    assert!(rt; turned(alloc, &mut reader, END)?.len() == 130);
+    check_fault(rt, alloc, &mut reader)?;
     let (disk, _) = reader.into_parts();
     assert!(rt; disk.disk.changes() == changes && disk.faults() == 1);
     Ok(())
@@ -190,23 +209,21 @@ fn a_turn_may_be_made_again(rt: HostRuntime) -> Result<(), Fail> {
     Ok(())
 }
 
-/// All frames, once more if memory is refused.
-fn read_again(rt: &impl Abort, alloc: Global, reader: &mut Reader) -> Result<Vec<i64>, Refusal> {
+/// How many frames there are, read once more if memory is refused.
+fn read_again(rt: &impl Abort, alloc: Global, reader: &mut Reader) -> Result<usize, Refusal> {
     match turned(alloc, reader, END) {
         Err(refusal) => {
             assert!(rt; refusal == Refusal::NoMemory && reader.next_position() == 0);
             turned(alloc, reader, END)
         }
-        starts => starts,
+        count => count,
     }
 }
 
 /// Makes a reader and reads all frames.
 fn reads(rt: &impl Abort, alloc: Global) -> Result<(), Refusal> {
-    let disk = stored(rt, alloc, 2)?.disk;
-    let mut reader = reader(rt, alloc, disk)?;
-    let starts = read_again(rt, alloc, &mut reader)?;
-    assert!(rt; starts.len() == 130 && reader.next_position() == END);
+    let mut reader = reader(rt, alloc, stored(rt, alloc, 2)?.disk)?;
+    assert!(rt; read_again(rt, alloc, &mut reader)? == 130 && reader.next_position() == END);
     Ok(())
 }
 
