@@ -3,7 +3,8 @@
 ghost use Rattle.std.specs.Prelude.{◌≡◌, IfOk, IfSome};
 ghost use Rattle.agents_core.specs.Runs.{AreReading, AreSeated};
 
-use crate::archives::{Scenario, Seats, closed, played};
+use crate::archives::{Scenario, Seats, played};
+use crate::left::Then;
 use crate::seat::Seat;
 use agents_core::{
     Agents, BlockSource, FrameSink, Gate, Receiver, Recorder, RecorderSeat, Replayer, run_agents,
@@ -44,6 +45,14 @@ impl<'a> Meeting<'a> {
     }
 }
 
+/// Whether all arrived in time at a meeting, if there is one.
+fn is_met(meeting: Option<Meeting<'_>>) -> bool {
+    match meeting {
+        Some(meeting) => meeting.is_met(),
+        None => true,
+    }
+}
+
 /// Blocks, from the last to the first, perhaps after a meeting.
 #[derive(Drop)]
 struct Listed<'a> {
@@ -57,12 +66,11 @@ impl<'a> BlockSource for Listed<'a> {
     ghost gives = { λ old block new. ⊤ };
 
     fn next(&mut self) -> Option<Block> {
-        if let Some(meeting) = self.meeting.take() {
-            if !meeting.is_met() {
-                return None;
-            }
+        if is_met(self.meeting.take()) {
+            self.blocks.pop()
+        } else {
+            None
         }
-        self.blocks.pop()
     }
 }
 
@@ -84,18 +92,14 @@ impl<'a> FrameSink for Counting<'a> {
     ghost takes = { λ old frames more new. ⊤ };
 
     fn take(&mut self, frames: &[PolledFrame]) -> bool {
-        if self.is_closed {
-            self.late = self.late.saturating_add(1);
-        }
-        let is_met = match self.meeting.take() {
-            Some(meeting) => meeting.is_met(),
-            None => true,
-        };
+        self.late = self.late.saturating_add(usize::from(self.is_closed));
+        let is_met = is_met(self.meeting.take());
         thread::yield_now();
         self.frames = self.frames.saturating_add(frames.len());
         self.most = self.most.max(frames.len());
-        self.is_closed = !is_met || self.frames >= self.wanted;
-        !self.is_closed
+        let is_open = is_met & (self.frames < self.wanted);
+        self.is_closed = !is_open;
+        is_open
     }
 }
 
@@ -157,27 +161,27 @@ impl Gate for Ends {
     }
 }
 
-/// What agents are made with: where the blocks of each source begin, from the last on; how many frames the first sink wants;
-/// and where sources and sinks meet.
+/// What agents are made with: what the first seat says before they run; where the blocks of each source begin, from the last on; how
+/// many frames the first sink wants; and where sources and sinks meet.
 #[derive(Clone, Copy)]
 pub(crate) struct Plan<'a> {
+    pub script: &'a str,
     pub offsets: &'a [i32],
     pub wanted: usize,
     pub meeting: Option<Meeting<'a>>,
 }
 
-/// What the agents did, and how many calls were stored, if they were kept.
-#[derive(Drop)]
+/// What the agents did. The first sink says how many frames a call of it brought at most.
+#[derive(Clone, Copy)]
 pub(crate) struct Told {
     pub has_run: bool,
     pub refused: usize,
     pub rising: usize,
     late: usize,
     most: usize,
-    pub frames: Vec<usize>,
-    pub left: Vec<usize>,
+    pub frames: [usize; 2],
+    pub left: [usize; 2],
     pub polls: u64,
-    pub calls: Option<(u64, bool)>,
 }
 
 /// Two receivers with their recorders and two replayers run at once, each in its own thread. All blocks are recorded, and
@@ -207,28 +211,35 @@ pub(crate) fn two_pairs<
     D: Disk + Drop + Send,
     A: Naming + Send + Sync,
     R: Threads + Wait + Abort + Sync,
->(rt: &R, alloc: Global, archive: SharedArchive<D, A>, mut seats: Seats<A>) -> Result<(), Fail> {
-    seats.first.plays(rt, alloc, &archive, BEGUN)?;
+>(
+    rt: &R,
+    alloc: Global,
+    archive: &SharedArchive<D, A>,
+    seats: Seats<A>,
+) -> Result<(Seats<A>, Then), Fail> {
     let arrived = AtomicU32::new(0);
     let plan = Plan {
+        script: BEGUN,
         offsets: &[128, 64, 0],
         wanted: 1,
         meeting: Some(Meeting { arrived: &arrived }),
     };
     let gate = Turns { made: zeros() };
-    let told = ran(rt, alloc, archive, seats, plan, &gate)?;
+    let (seats, told) = ran(rt, alloc, archive, seats, plan, &gate)?;
     assert!(rt; arrived.load(Ordering::SeqCst) == 4);
+    check_whole(rt, told, &gate);
+    Ok((seats, Then::Calls(told.polls.saturating_add(16))))
+}
+
+/// All blocks were recorded, and replayed as far as each sink wants.
+fn check_whole(rt: &impl Abort, told: Told, gate: &Turns) {
     assert!(rt; told.has_run && told.refused == 0 && told.rising == 2);
     // One sink ends at the poll that has its first frame, and is not called again; the other has all three.
-    assert!(rt;
-        told.frames.as_slice() == [told.most, 3].as_slice() && told.most > 0 && told.late == 0
-    );
-    assert!(rt; told.left.as_slice() == [0, 0].as_slice());
-    assert!(rt; told.calls == Some((told.polls.saturating_add(16), true)));
+    assert!(rt; told.frames == [told.most, 3] && told.most > 0 && told.late == 0);
+    assert!(rt; told.left == [0, 0]);
     for made in &gate.made {
         assert!(rt; (1..=MOST).contains(&made.load(Ordering::SeqCst)));
     }
-    Ok(())
 }
 
 /// The same agents without a meeting, over longer lists of blocks, ended by their gate.
@@ -236,24 +247,33 @@ pub(crate) fn gated_pairs<
     D: Disk + Drop + Send,
     A: Naming + Send + Sync,
     R: Threads + Wait + Abort + Sync,
->(rt: &R, alloc: Global, archive: SharedArchive<D, A>, mut seats: Seats<A>) -> Result<(), Fail> {
-    seats.first.plays(rt, alloc, &archive, BEGUN)?;
+>(
+    rt: &R,
+    alloc: Global,
+    archive: &SharedArchive<D, A>,
+    seats: Seats<A>,
+) -> Result<(Seats<A>, Then), Fail> {
     let plan = Plan {
+        script: BEGUN,
         offsets: &[448, 384, 320, 256, 192, 128, 64, 0],
         wanted: 100,
         meeting: None,
     };
     let gate = Ends { asked: zeros() };
-    let told = ran(rt, alloc, archive, seats, plan, &gate)?;
+    let (seats, told) = ran(rt, alloc, archive, seats, plan, &gate)?;
+    check_gated(rt, told, &gate);
+    Ok((seats, Then::Calls(4 + 2 * 2 + 2 + 5 + 6)))
+}
+
+/// Each agent made as many turns as its gate let it.
+fn check_gated(rt: &impl Abort, told: Told, gate: &Ends) {
     assert!(rt; told.has_run && told.refused == 0 && told.rising == 2);
     // Each agent asked once more than it made turns, by a number of its own.
     for (asked, turns) in gate.asked.iter().zip(TURNS) {
         assert!(rt; asked.load(Ordering::SeqCst) == turns.saturating_add(1));
     }
     // A receiver's turn takes a block, a recorder's makes two calls, a replayer's one.
-    assert!(rt; told.left.as_slice() == [5, 4].as_slice() && told.polls == 11);
-    assert!(rt; told.calls == Some((4 + 2 * 2 + 2 + 5 + 6, true)));
-    Ok(())
+    assert!(rt; told.left == [5, 4] && told.polls == 11);
 }
 
 pub(crate) fn zeros() -> [AtomicU32; 6] {
@@ -267,22 +287,29 @@ pub(crate) fn zeros() -> [AtomicU32; 6] {
     ]
 }
 
-/// Makes agents by a plan, and runs them.
+/// Makes agents by a plan, and runs them. The seats again, and what the agents did.
 pub(crate) fn ran<
     D: Disk + Drop + Send,
     A: Naming + Send + Sync,
     G: Gate + Sync,
-    R: Threads + Wait + Sync,
+    R: Threads + Wait + Abort + Sync,
 >(
     rt: &R,
     alloc: Global,
-    archive: SharedArchive<D, A>,
-    seats: Seats<A>,
+    archive: &SharedArchive<D, A>,
+    mut seats: Seats<A>,
     plan: Plan<'_>,
     gate: &G,
-) -> Result<Told, Fail> {
-    match seated(alloc, seats, plan) {
-        Some((board, agents)) => Ok(run(rt, alloc, archive, &board, agents, gate)?),
+) -> Result<(Seats<A>, Told), Fail> {
+    if let Err(fail) = seats.first.plays(rt, alloc, archive, plan.script) {
+        return Err(fail);
+    }
+    let ran = match seated(alloc, seats, plan) {
+        Some((board, agents)) => run(rt, alloc, archive, &board, agents, gate),
+        None => None,
+    };
+    match ran {
+        Some(ran) => Ok(ran),
         None => Err(Fail::from("no agents")),
     }
 }
@@ -311,8 +338,10 @@ fn seated<'a, A: Naming>(
     let second = RecorderSeat::new(1, seats.second.into_pass(), second);
     let follower = replayer(alloc, seats.third.into_pass(), 0, early, plan.wanted, plan);
     let late = replayer(alloc, seats.fourth.into_pass(), 1, late, 100, plan);
-    let agents = agents_of::<A>(alloc, &board, plan, first, second, follower, late)?;
-    Some((board, agents))
+    match agents_of::<A>(alloc, &board, plan, first, second, follower, late) {
+        Some(agents) => Some((board, agents)),
+        None => None,
+    }
 }
 
 fn agents_of<'a, A: Naming>(
@@ -345,25 +374,24 @@ fn agents_of<'a, A: Naming>(
     })
 }
 
-/// Runs the agents, and closes the archive with their passes.
+/// Runs the agents. Their seats, and what they did.
 fn run<D: Disk + Drop + Send, A: Naming + Send + Sync, G: Gate + Sync, R: Threads + Wait + Sync>(
     rt: &R,
     alloc: Global,
-    archive: SharedArchive<D, A>,
+    archive: &SharedArchive<D, A>,
     board: &Board,
     agents: Agents<Listed<'_>, Counting<'_>>,
     gate: &G,
-) -> Result<Told, AllocError>
+) -> Option<(Seats<A>, Told)>
     requires recorders { AreSeated A.table board.now agents.recorders.items }
     requires replayers { AreReading A.table board.now agents.replayers.items }
 {
-    let (agents, outcome) = run_agents(rt, alloc, &archive, board, agents, gate);
-    let mut told = told_by(alloc, &agents)?;
-    told.has_run = outcome.is_ok();
-    if let Some(seats) = seats_left::<A>(board, agents) {
-        told.calls = closed(alloc, archive, seats);
+    let (agents, outcome) = run_agents(rt, alloc, archive, board, agents, gate);
+    let told = told_by(outcome.is_ok(), &agents);
+    match seats_left::<A>(board, agents) {
+        Some(seats) => Some((seats, told)),
+        None => None,
     }
-    Ok(told)
 }
 
 /// The seats of all agents.
@@ -400,9 +428,18 @@ fn recorder_seat<A: Naming>(board: &Board, recorders: &mut Vec<Recorder>) -> Opt
     ensures { AreSeated A.table board.now recorders.new.items }
 {
     let _ = board;
-    let Recorder { seat, refused: _ } = recorders.pop()?;
-    let (pass, _) = seat.into_parts();
-    Some(Seat::new(pass))
+    match recorders.pop() {
+        Some(recorder) => Some(seat_of(recorder.seat)),
+        None => None,
+    }
+}
+
+/// The seat of a recorder's pass.
+fn seat_of<A: Naming>(recorder: RecorderSeat) -> Seat<A>
+    requires { recorder.pass.table ≡ A.table }
+{
+    let (pass, _) = recorder.into_parts();
+    Seat::new(pass)
 }
 
 fn replayer_seat<A: Naming>(
@@ -413,35 +450,38 @@ fn replayer_seat<A: Naming>(
     ensures { AreReading A.table board.now replayers.new.items }
 {
     let _ = board;
-    let replayer = replayers.pop()?;
-    Some(Seat::new(replayer.pass))
+    match replayers.pop() {
+        Some(replayer) => Some(Seat::new(replayer.pass)),
+        None => None,
+    }
 }
 
-fn told_by(alloc: Global, agents: &Agents<Listed<'_>, Counting<'_>>) -> Result<Told, AllocError> {
+fn told_by(has_run: bool, agents: &Agents<Listed<'_>, Counting<'_>>) -> Told {
     let mut told = Told {
-        has_run: false,
+        has_run,
         refused: refused_of(agents.recorders.as_slice()),
         rising: 0,
         late: 0,
         most: 0,
-        frames: Vec::new(alloc),
-        left: left_of(alloc, agents.receivers.as_slice())?,
+        frames: [0; 2],
+        left: left_of(agents.receivers.as_slice()),
         polls: 0,
-        calls: None,
     };
-    for replayer in agents.replayers.as_slice() {
-        note(&mut told, replayer)?;
+    if let [first, second] = agents.replayers.as_slice() {
+        note(&mut told, first);
+        note(&mut told, second);
+        told.most = first.sink.most;
+        told.frames = [first.sink.frames, second.sink.frames];
     }
-    Ok(told)
+    told
 }
 
 /// How many blocks each source still has.
-fn left_of(alloc: Global, receivers: &[Receiver<Listed<'_>>]) -> Result<Vec<usize>, AllocError> {
-    let mut left = Vec::new(alloc);
-    for receiver in receivers {
-        left.push(receiver.source.blocks.len())?;
+fn left_of(receivers: &[Receiver<Listed<'_>>]) -> [usize; 2] {
+    match receivers {
+        [first, second] => [first.source.blocks.len(), second.source.blocks.len()],
+        _ => [usize::MAX; 2],
     }
-    Ok(left)
 }
 
 /// How many recorders were refused.
@@ -455,21 +495,16 @@ fn refused_of(recorders: &[Recorder]) -> usize {
     refused
 }
 
-/// Adds what a replayer did. The first one's sink says how many frames a call of it brought at most.
-fn note(told: &mut Told, replayer: &Replayer<Counting<'_>>) -> Result<(), AllocError> {
+/// Adds what a replayer did.
+fn note(told: &mut Told, replayer: &Replayer<Counting<'_>>) {
     if replayer.refused.is_some() {
         told.refused = told.refused.saturating_add(1);
     }
     if replayer.looked.as_slice().is_sorted() {
         told.rising = told.rising.saturating_add(1);
     }
-    if told.frames.is_empty() {
-        told.most = replayer.sink.most;
-    }
-    told.frames.push(replayer.sink.frames)?;
     told.late = told.late.saturating_add(replayer.sink.late);
     told.polls = told.polls.saturating_add(replayer.looked.len() as u64);
-    Ok(())
 }
 
 /// Two receivers of the plan's blocks.
@@ -492,19 +527,19 @@ fn receiver<'a>(alloc: Global, plan: Plan<'a>) -> Result<Receiver<Listed<'a>>, A
 fn blocks(alloc: Global, offsets: &[i32]) -> Result<Vec<Block>, AllocError> {
     let mut blocks = Vec::new(alloc);
     for offset in offsets {
-        blocks.push(block_at(alloc, *offset)?)?;
+        blocks.push(block_of(alloc, 7, *offset)?)?;
     }
     Ok(blocks)
 }
 
-/// The block of one frame at an offset of the first term.
-pub(crate) fn block_at(alloc: Global, offset: i32) -> Result<Block, AllocError> {
+/// The block of one frame of a session id at an offset of the first term.
+pub(crate) fn block_of(alloc: Global, session_id: i32, offset: i32) -> Result<Block, AllocError> {
     let frame = Frame {
         kind: FrameKind::Message,
         flags: 0xC0,
         length: 37,
         term_offset: offset,
-        session_id: 7,
+        session_id,
         stream_id: 1_001,
         term_id: 42,
         reserved: 0,

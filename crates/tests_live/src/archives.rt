@@ -5,14 +5,15 @@ ghost use Rattle.archive_lock.specs.Held.{engine_seen, view_of};
 ghost use Rattle.call_history.specs.Passes.{AllOfTable, new_passes};
 
 use crate::agents::{gated_pairs, two_pairs};
-use crate::benches::{group_again, group_fails, groups};
+use crate::benches::{Settling, grouped};
 use crate::ends::{End, ended_pairs};
-use crate::failing::{Left, each_again, faults, left_on, reads_again};
-use crate::held_back::one_pair;
-use crate::refused_turns::{damaged_turns, reopened, turned_again};
-use crate::scenarios::{bounded_part, breaks, missing_pass};
+use crate::failing::{READINGS, SCRIPT, again, faults};
+use crate::held_back::{Turning, paired};
+use crate::left::{Left, Then, check, left_on};
+use crate::refused_turns::reopened;
+use crate::scenarios::{BOUNDED_PARTS, BREAKS, by_turns, missing_pass};
 use crate::seat::Seat;
-use archive_lock::{Call, Made, Naming, SharedArchive};
+use archive_lock::{Call, Closed, Made, Naming, SharedArchive};
 use call_history::{Opened, Pass, Stored};
 use disk_core::{Disk, MemoryDisk};
 use engine_core::Engine;
@@ -180,6 +181,7 @@ fn seats_of<A: Naming>(mut passes: Vec<Pass<Made>>) -> Option<Seats<A>>
     })
 }
 
+/// Plays a scenario, closes the archive, and looks at what is left.
 fn play<D: Disk + Drop + Send + Counted, A: Naming + Send + Sync, R: Threads + Wait + Abort + Sync>(
     rt: &R,
     alloc: Global,
@@ -188,69 +190,50 @@ fn play<D: Disk + Drop + Send + Counted, A: Naming + Send + Sync, R: Threads + W
     keeps: bool,
     scenario: Scenario,
 ) -> Result<(), Fail> {
+    if let Scenario::MissingPass = scenario {
+        return missing_pass(rt, alloc, archive, seats, keeps);
+    }
+    match course_of(rt, alloc, &archive, seats, scenario) {
+        Ok((seats, then)) => {
+            let left = left_by(rt, alloc, archive, seats)?;
+            check(rt, left, keeps, then);
+            Ok(())
+        }
+        Err(fail) => Err(fail),
+    }
+}
+
+/// Plays a scenario whose archive is closed once. What has to be left then.
+fn course_of<D: Disk + Drop + Send, A: Naming + Send + Sync, R: Threads + Wait + Abort + Sync>(
+    rt: &R,
+    alloc: Global,
+    archive: &SharedArchive<D, A>,
+    seats: Seats<A>,
+    scenario: Scenario,
+) -> Result<(Seats<A>, Then), Fail> {
     match scenario {
-        Scenario::MissingPass => missing_pass(rt, alloc, archive, seats, keeps),
-        Scenario::BoundedPart => bounded_part(rt, alloc, archive, seats, keeps),
-        Scenario::Break => breaks(rt, alloc, archive, seats, keeps),
+        Scenario::MissingPass => Err(Fail::from("an archive that is closed twice")),
+        Scenario::BoundedPart => by_turns(rt, alloc, archive, seats, BOUNDED_PARTS, 9),
+        Scenario::Break => by_turns(rt, alloc, archive, seats, BREAKS, 22),
         Scenario::Agents => two_pairs(rt, alloc, archive, seats),
         Scenario::Gated => gated_pairs(rt, alloc, archive, seats),
         Scenario::Ended(end) => ended_pairs(rt, alloc, archive, seats, end),
-        Scenario::HeldBack => one_pair(rt, alloc, archive, seats),
-        Scenario::DamagedTurn => damaged_turns(rt, alloc, archive, seats),
-        Scenario::TurnAgain => turned_again(rt, alloc, archive, seats),
+        Scenario::HeldBack => paired(rt, alloc, archive, seats, Turning::HeldBack),
+        Scenario::DamagedTurn => paired(rt, alloc, archive, seats, Turning::Damaged),
+        Scenario::TurnAgain => paired(rt, alloc, archive, seats, Turning::Again),
         Scenario::Fault(call) => faults(rt, alloc, archive, seats, call),
-        Scenario::EachAgain => each_again(rt, alloc, archive, seats),
-        Scenario::Group => groups(rt, alloc, archive, seats),
-        Scenario::GroupFault(call) => group_fails(rt, alloc, archive, seats, call),
-        Scenario::GroupAgain => group_again(rt, alloc, archive, seats),
-        Scenario::ReadAgain => reads_again(rt, alloc, archive, seats),
+        // 6 changes came before the script.
+        Scenario::EachAgain => again(rt, alloc, archive, seats, &SCRIPT, 52),
+        Scenario::Group => grouped(rt, alloc, archive, seats, Settling::Twice),
+        Scenario::GroupFault(call) => grouped(rt, alloc, archive, seats, Settling::Once(call)),
+        Scenario::GroupAgain => grouped(rt, alloc, archive, seats, Settling::Again),
+        // 21 changes made what is recorded, and its opening synced three files.
+        Scenario::ReadAgain => again(rt, alloc, archive, seats, &READINGS, 24),
     }
 }
 
-/// How many calls were stored, and whether their records were kept, of an archive that is closed with all seats.
-pub(crate) fn closed<D: Disk + Drop, A: Naming>(
-    alloc: Global,
-    archive: SharedArchive<D, A>,
-    seats: Seats<A>,
-) -> Option<(u64, bool)> {
-    match closed_with(alloc, archive, seats) {
-        Some(history) => Some(stored(&history)),
-        None => None,
-    }
-}
-
-/// What was stored of an archive that is closed with all seats.
-pub(crate) fn closed_with<D: Disk + Drop, A: Naming>(
-    alloc: Global,
-    archive: SharedArchive<D, A>,
-    seats: Seats<A>,
-) -> Option<Stored<Call>> {
-    let Ok(passes) = passes_of(alloc, seats) else {
-        return None;
-    };
-    match archive.close(passes) {
-        Ok(closed) => Some(closed.history),
-        Err(_) => None,
-    }
-}
-
-/// The disk of an archive that is closed with all seats.
-pub(crate) fn disk_left<D: Disk + Drop, A: Naming>(
-    alloc: Global,
-    archive: SharedArchive<D, A>,
-    seats: Seats<A>,
-) -> Option<D> {
-    let Ok(passes) = passes_of(alloc, seats) else {
-        return None;
-    };
-    match archive.close(passes) {
-        Ok(closed) => Some(closed.engine.into_disk()),
-        Err(_) => None,
-    }
-}
-
-/// What an archive that is closed with all seats leaves; `NoMemory` if there is none for their passes.
-pub(crate) fn left_by<D: Disk + Drop + Counted, A: Naming, R: Abort>(
+/// What an archive leaves that is closed with all seats; `NoMemory` if there is none for their passes.
+fn left_by<D: Disk + Drop + Counted, A: Naming, R: Abort>(
     rt: &R,
     alloc: Global,
     archive: SharedArchive<D, A>,
@@ -271,13 +254,23 @@ fn left_with<D: Disk + Drop + Counted, A: Naming, R: Abort>(
 ) -> Result<Left, Refusal>
     requires { AllOfTable A.table passes.items }
 {
-    match archive.close(passes) {
-        Ok(closed) => {
+    match closed(archive, passes) {
+        Some(closed) => {
             let calls = stored(&closed.history);
             left_on(alloc, closed.engine.into_disk(), calls)
         }
-        Err(_) => panic!(rt; "a call is of no pass"),
+        None => panic!(rt; "a call is of no pass"),
     }
+}
+
+/// It, closed.
+fn closed<D: Disk + Drop, A: Naming>(
+    archive: SharedArchive<D, A>,
+    passes: Vec<Pass<Made>>,
+) -> Option<Closed<D>>
+    requires { AllOfTable A.table passes.items }
+{
+    archive.close(passes).ok()
 }
 
 /// How many calls were stored, and whether their records were kept.

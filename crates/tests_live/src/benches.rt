@@ -1,15 +1,19 @@
 //! Recorder sessions that a bench settles together, next to others: docs/ARCHITECTURE.md, "Followers".
 
 ghost use Rattle.std.specs.Prelude.{◌≡◌, [], IfOk, IfSome};
+ghost use Rattle.std.proofs.Props.{props};
 ghost use Rattle.recorder_seats.specs.Bench.{AreOfBoard, AreUnraised};
 ghost use Rattle.recorder_seats.specs.Seat.{raised_positions};
+ghost use Rattle.tests_live.specs.OneProof.{each_prop};
 
-use crate::archives::{Scenario, Seats, closed, disk_left, played, played_again};
+use crate::agents::block_of;
+use crate::archives::{Scenario, Seats, played, played_again};
+use crate::left::{Left, Then};
 use crate::seat::Seat;
 use archive_lock::{Naming, SharedArchive};
+use archive_model::Reply;
 use disk_core::Disk;
-use engine_core::Engine;
-use frame_core::{Block, Frame, FrameKind, Items, Refusal};
+use frame_core::{Block, Items, Refusal};
 use position_board::{Board, Reader, Writer};
 use recorder_seats::{BenchSeat, RecorderBench};
 use std::alloc::{AllocError, Global};
@@ -41,6 +45,7 @@ struct Group<A: Naming> {
     ghost named: { bench.pass.table ≡ A.table },
     ghost reads: { reader.table ≡ board },
     ghost slots: { board.words ≡ 2 },
+    ghost writes: { AreOfBoard board bench.seats } by { Prim.hlevel (each_prop, props) },
 }
 
 impl<A: Naming> Group<A> {
@@ -51,11 +56,20 @@ impl<A: Naming> Group<A> {
         alloc: Global,
         archive: &SharedArchive<D, A>,
         script: &str,
-    ) -> Result<(), Fail>
-        requires { AreOfBoard self.old.board self.old.bench.seats }
-        ensures { AreOfBoard self.new.board self.new.bench.seats }
-    {
+    ) -> Result<(), Fail> {
         self.fourth.plays(rt, alloc, archive, script)
+    }
+
+    /// Writes a block for the session of a seat.
+    fn put<D: Disk, R: Wait>(
+        &mut self,
+        rt: &R,
+        alloc: Global,
+        archive: &SharedArchive<D, A>,
+        seat: usize,
+        block: Block,
+    ) -> Result<Reply, Refusal> {
+        self.bench.write(rt, alloc, archive, seat, block)
     }
 
     /// Writes the frame of a session id, at an offset of the term, for the session of a seat.
@@ -67,12 +81,9 @@ impl<A: Naming> Group<A> {
         seat: usize,
         session_id: i32,
         offset: i32,
-    ) -> Result<(), Refusal>
-        requires { AreOfBoard self.old.board self.old.bench.seats }
-        ensures { AreOfBoard self.new.board self.new.bench.seats }
-    {
+    ) -> Result<(), Refusal> {
         let block = block_of(alloc, session_id, offset)?;
-        self.bench.write(rt, alloc, archive, seat, block)?;
+        self.put(rt, alloc, archive, seat, block)?;
         Ok(())
     }
 
@@ -83,10 +94,7 @@ impl<A: Naming> Group<A> {
         alloc: Global,
         archive: &SharedArchive<D, A>,
         offset: i32,
-    ) -> Result<(), Refusal>
-        requires { AreOfBoard self.old.board self.old.bench.seats }
-        ensures { AreOfBoard self.new.board self.new.bench.seats }
-    {
+    ) -> Result<(), Refusal> {
         self.write(rt, alloc, archive, 0, 7, offset)?;
         self.write(rt, alloc, archive, 1, 8, offset)
     }
@@ -97,10 +105,7 @@ impl<A: Naming> Group<A> {
         rt: &R,
         alloc: Global,
         archive: &SharedArchive<D, A>,
-    ) -> Result<(), Fail>
-        requires { AreOfBoard self.old.board self.old.bench.seats }
-        ensures { AreOfBoard self.new.board self.new.bench.seats }
-    {
+    ) -> Result<(), Fail> {
         self.play(rt, alloc, archive, BEGUN)?;
         self.write_both(rt, alloc, archive, 0)?;
         Ok(())
@@ -112,28 +117,9 @@ impl<A: Naming> Group<A> {
         rt: &R,
         alloc: Global,
         archive: &SharedArchive<D, A>,
-    ) -> Result<(), Fail>
-        requires { AreOfBoard self.old.board self.old.bench.seats }
-        ensures { AreOfBoard self.new.board self.new.bench.seats }
-    {
+    ) -> Result<(), Fail> {
         self.write_both(rt, alloc, archive, 64)?;
         self.play(rt, alloc, archive, "stop 1 2000: stopped 64\n")
-    }
-
-    /// What the settling of the chosen seats is answered.
-    fn settle<D: Disk, R: Wait>(
-        &mut self,
-        rt: &R,
-        alloc: Global,
-        archive: &SharedArchive<D, A>,
-    ) -> Result<Items<Option<i64>>, Refusal>
-        requires { AreOfBoard self.old.board self.old.bench.seats }
-        ensures { AreOfBoard self.new.board self.new.bench.seats }
-    {
-        let (answer, _) = self
-            .bench
-            .settle_all(rt, alloc, archive, &self.board, &CHOSEN);
-        answer
     }
 
     /// How the settling of the chosen seats is refused; not at all if it is answered by these positions.
@@ -143,24 +129,15 @@ impl<A: Naming> Group<A> {
         alloc: Global,
         archive: &SharedArchive<D, A>,
         positions: &[Option<i64>],
-    ) -> Option<Refusal>
-        requires { AreOfBoard self.old.board self.old.bench.seats }
-        ensures { AreOfBoard self.new.board self.new.bench.seats }
-    {
-        match self.settle(rt, alloc, archive) {
-            Ok(answer) => {
-                assert!(rt; answer.as_slice() == positions);
-                None
-            }
-            Err(refusal) => Some(refusal),
-        }
+    ) -> Option<Refusal> {
+        let (answer, _) = self
+            .bench
+            .settle_all(rt, alloc, archive, &self.board, &CHOSEN);
+        refusal_of(rt, &answer, positions)
     }
 
     /// Whether these positions are seen in the two slots.
-    fn sees(&mut self, first: i64, second: i64) -> bool
-        requires { AreOfBoard self.old.board self.old.bench.seats }
-        ensures { AreOfBoard self.new.board self.new.bench.seats }
-    {
+    fn sees(&mut self, first: i64, second: i64) -> bool {
         let seen = self.board.look(&mut self.reader, 0);
         seen == first && self.board.look(&mut self.reader, 1) == second
     }
@@ -185,23 +162,19 @@ impl<A: Naming> Group<A> {
     }
 }
 
-/// The block of one frame of a session id at an offset of the first term.
-fn block_of(alloc: Global, session_id: i32, offset: i32) -> Result<Block, AllocError> {
-    let frame = Frame {
-        kind: FrameKind::Message,
-        flags: 0xC0,
-        length: 37,
-        term_offset: offset,
-        session_id,
-        stream_id: 1_001,
-        term_id: 42,
-        reserved: 0,
-        payload: Items::from_vec(b"hello".to_vec(alloc)?),
-    };
-    Ok(Block {
-        position: offset as i64,
-        frames: Items::from_vec(vec![in alloc; frame]?),
-    })
+/// How a settling was refused; not at all if it was answered by these positions.
+fn refusal_of(
+    rt: &impl Abort,
+    answer: &Result<Items<Option<i64>>, Refusal>,
+    positions: &[Option<i64>],
+) -> Option<Refusal> {
+    match answer {
+        Ok(answer) => {
+            assert!(rt; answer.as_slice() == positions);
+            None
+        }
+        Err(refusal) => Some(*refusal),
+    }
 }
 
 /// Seats of the sessions 0 and 1, for two writers of a board that have raised nothing.
@@ -242,16 +215,14 @@ fn boarded(alloc: Global) -> Option<(Board, Vec<BenchSeat>, Reader)>
     else {
         return None;
     };
-    let Ok(seats) = seats_of(alloc, &board, first, second) else {
-        return None;
-    };
-    Some((board, seats, reader))
+    match seats_of(alloc, &board, first, second) {
+        Ok(seats) => Some((board, seats, reader)),
+        Err(_) => None,
+    }
 }
 
 /// The group.
-fn grouped<A: Naming>(alloc: Global, seats: Seats<A>) -> Option<Group<A>>
-    ensures { IfSome result (λ group. AreOfBoard group.board group.bench.seats) }
-{
+fn group_of<A: Naming>(alloc: Global, seats: Seats<A>) -> Option<Group<A>> {
     let Some((board, at, reader)) = boarded(alloc) else {
         return None;
     };
@@ -282,105 +253,38 @@ fn settle_twice<D: Disk, A: Naming, R: Wait + Abort>(
     alloc: Global,
     archive: &SharedArchive<D, A>,
     group: &mut Group<A>,
-) -> Result<(), Fail>
-    requires { AreOfBoard group.old.board group.old.bench.seats }
-{
+) -> Result<Then, Fail> {
     group.begin(rt, alloc, archive)?;
     assert!(rt; group.refuses(rt, alloc, archive, &BOTH_OPEN) == None);
     assert!(rt; group.sees(64, 64));
     group.go_on(rt, alloc, archive)?;
     assert!(rt; group.refuses(rt, alloc, archive, &ONE_OPEN) == None);
     assert!(rt; group.sees(128, 64));
-    Ok(())
+    Ok(Then::Calls(9))
 }
 
-/// Each session is answered its own position, and its slot is raised to it; a session that isn't there is answered none, and so is
-/// one whose recording was stopped before. The others settle.
-pub(crate) fn groups<D: Disk + Drop, A: Naming, R: Wait + Abort>(
-    rt: &R,
-    alloc: Global,
-    archive: SharedArchive<D, A>,
-    seats: Seats<A>,
-) -> Result<(), Fail> {
-    let Some(mut group) = grouped(alloc, seats) else {
-        return Err(Fail::from("a board"));
-    };
-    settle_twice(rt, alloc, &archive, &mut group)?;
-    let calls = closed(alloc, archive, group.into_seats());
-    assert!(rt; calls == Some((9, true)));
-    Ok(())
-}
-
-/// Whether the settling fails, by a call of the disk. Then no slot is raised.
+/// The settling fails, or not, by the call of the disk of this number. Then no slot is raised.
 fn settle_once<D: Disk, A: Naming, R: Wait + Abort>(
     rt: &R,
     alloc: Global,
     archive: &SharedArchive<D, A>,
     group: &mut Group<A>,
-) -> Result<bool, Fail>
-    requires { AreOfBoard group.old.board group.old.bench.seats }
-{
+    call: u64,
+) -> Result<Then, Fail> {
     group.begin(rt, alloc, archive)?;
     let refusal = group.refuses(rt, alloc, archive, &BOTH_OPEN);
     let has_failed = refusal == Some(Refusal::DeviceFault);
     let seen = if has_failed { 0 } else { 64 };
     assert!(rt; group.sees(seen, seen));
-    Ok(has_failed)
-}
-
-/// A call of the disk in a group's settling fails: then no slot is raised, and of the group all is recorded or nothing.
-pub(crate) fn group_fails<D: Disk + Drop, A: Naming, R: Wait + Abort>(
-    rt: &R,
-    alloc: Global,
-    archive: SharedArchive<D, A>,
-    seats: Seats<A>,
-    call: u64,
-) -> Result<(), Fail> {
-    let Some(mut group) = grouped(alloc, seats) else {
-        return Err(Fail::from("a board"));
-    };
-    let has_failed = settle_once(rt, alloc, &archive, &mut group)?;
-    let recorded = recorded_by(alloc, archive, group.into_seats());
-    check_failed(rt, call, has_failed, recorded);
-    Ok(())
+    Ok(Then::Group(call, has_failed))
 }
 
 /// A call of the settling fails it, and then all of it is recorded, or nothing. Another call fails after it.
-fn check_failed(rt: &impl Abort, call: u64, has_failed: bool, recorded: Option<(i64, i64)>) {
+pub(crate) fn check_group(rt: &impl Abort, left: Left, call: u64, has_failed: bool) {
     assert!(rt; has_failed == (call <= CALLS), "{call}");
-    let is_whole = recorded == Some((64, 64)) || (has_failed && recorded == Some((0, 0)));
+    let recorded = (left.place.1, left.second.1);
+    let is_whole = recorded == (64, 64) || (has_failed && recorded == (0, 0));
     assert!(rt; is_whole, "{call}");
-}
-
-/// Up to where the two recordings are recorded of an archive that is closed with all seats.
-fn recorded_by<D: Disk + Drop, A: Naming>(
-    alloc: Global,
-    archive: SharedArchive<D, A>,
-    seats: Seats<A>,
-) -> Option<(i64, i64)> {
-    match recorded_on(alloc, disk_left(alloc, archive, seats)?) {
-        Ok(recorded) => recorded,
-        // The call that was to fail is the first one of this opening.
-        Err(disk) => match recorded_on(alloc, disk) {
-            Ok(recorded) => recorded,
-            Err(_) => None,
-        },
-    }
-}
-
-/// Up to where the two recordings of a disk are recorded, or the disk, if it can't be opened.
-fn recorded_on<D: Disk + Drop>(alloc: Global, disk: D) -> Result<Option<(i64, i64)>, D> {
-    match Engine::open(alloc, disk) {
-        Ok((engine, _)) => Ok(recorded_of(&engine)),
-        Err(refused) => Err(refused.disk),
-    }
-}
-
-/// Up to where the two recordings of an archive are recorded.
-fn recorded_of<D: Disk>(engine: &Engine<D>) -> Option<(i64, i64)> {
-    let first = engine.desk().recording(&0)?.recorded;
-    let second = engine.desk().recording(&1)?.recorded;
-    Some((first, second))
 }
 
 /// How the settling is refused, once more if it found no memory. Then it has raised no slot.
@@ -389,10 +293,7 @@ fn settle_again<D: Disk, A: Naming, R: Wait + Abort>(
     alloc: Global,
     archive: &SharedArchive<D, A>,
     group: &mut Group<A>,
-) -> Option<Refusal>
-    requires { AreOfBoard group.old.board group.old.bench.seats }
-    ensures { AreOfBoard group.new.board group.new.bench.seats }
-{
+) -> Option<Refusal> {
     let refusal = group.refuses(rt, alloc, archive, &BOTH_OPEN);
     if refusal == Some(Refusal::NoMemory) {
         assert!(rt; group.sees(0, 0));
@@ -407,31 +308,47 @@ fn settle_at_last<D: Disk, A: Naming, R: Wait + Abort>(
     alloc: Global,
     archive: &SharedArchive<D, A>,
     group: &mut Group<A>,
-) -> Result<(), Fail>
-    requires { AreOfBoard group.old.board group.old.bench.seats }
-{
+) -> Result<Then, Fail> {
     group.begin(rt, alloc, archive)?;
     match settle_again(rt, alloc, archive, group) {
         None => assert!(rt; group.sees(64, 64)),
         Some(refusal) => assert!(rt; refusal == Refusal::DeviceFault),
     }
-    Ok(())
+    Ok(Then::Calls(5))
 }
 
-/// A group that finds no memory is no call, and settles when it is asked again.
-pub(crate) fn group_again<D: Disk + Drop, A: Naming, R: Wait + Abort>(
+/// How a group settles.
+#[derive(Clone, Copy)]
+pub(crate) enum Settling {
+    /// Each session is answered its own position, and its slot is raised to it; a session that isn't there is answered none, and
+    /// so is one whose recording was stopped before. The others settle.
+    Twice,
+    /// The call of the disk of this number fails: then no slot is raised, and of the group all is recorded or nothing.
+    Once(u64),
+    /// If it finds no memory it is no call, and settles when it is asked again.
+    Again,
+}
+
+/// A group settles, and leaves its seats.
+pub(crate) fn grouped<D: Disk, A: Naming, R: Wait + Abort>(
     rt: &R,
     alloc: Global,
-    archive: SharedArchive<D, A>,
+    archive: &SharedArchive<D, A>,
     seats: Seats<A>,
-) -> Result<(), Fail> {
-    let Some(mut group) = grouped(alloc, seats) else {
+    settling: Settling,
+) -> Result<(Seats<A>, Then), Fail> {
+    let Some(mut group) = group_of(alloc, seats) else {
         return Err(Fail::from("a board"));
     };
-    settle_at_last(rt, alloc, &archive, &mut group)?;
-    let calls = closed(alloc, archive, group.into_seats());
-    assert!(rt; calls == Some((5, true)) || calls.is_none());
-    Ok(())
+    let then = match settling {
+        Settling::Twice => settle_twice(rt, alloc, archive, &mut group),
+        Settling::Once(call) => settle_once(rt, alloc, archive, &mut group, call),
+        Settling::Again => settle_at_last(rt, alloc, archive, &mut group),
+    };
+    match then {
+        Ok(then) => Ok((group.into_seats(), then)),
+        Err(fail) => Err(fail),
+    }
 }
 
 /// Two sessions settle by one call: each is answered its own position, and its slot is raised to it. One that is not there, or

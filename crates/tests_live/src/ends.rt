@@ -2,6 +2,7 @@
 
 use crate::agents::{MOST, Plan, Told, ran, zeros};
 use crate::archives::{Scenario, Seats, played};
+use crate::left::Then;
 use agents_core::Gate;
 use archive_lock::{Naming, SharedArchive};
 use disk_core::Disk;
@@ -156,42 +157,40 @@ pub(crate) fn ended_pairs<
 >(
     rt: &R,
     alloc: Global,
-    archive: SharedArchive<D, A>,
-    mut seats: Seats<A>,
+    archive: &SharedArchive<D, A>,
+    seats: Seats<A>,
     end: End,
-) -> Result<(), Fail> {
+) -> Result<(Seats<A>, Then), Fail> {
+    let gate = Receivers::of(end);
+    let (seats, told) = ran(rt, alloc, archive, seats, plan_of(end), &gate)?;
+    assert!(rt; told.has_run && is_as_told(told, end));
+    assert!(rt; gate.are_free(end));
+    Ok((seats, Then::Anything))
+}
+
+/// What the agents of an end are made with.
+fn plan_of(end: End) -> Plan<'static> {
     let (script, offsets) = match end {
         End::Refused => (ONE, TWENTY),
         End::Gated => (OF_THREE, TWENTY),
         End::Full => (OF_FIFTEEN, FIFTEEN),
     };
-    seats.first.plays(rt, alloc, &archive, script)?;
-    let plan = Plan {
+    Plan {
+        script,
         offsets,
         wanted: 100,
         meeting: None,
-    };
-    let gate = Receivers::of(end);
-    let told = ran(rt, alloc, archive, seats, plan, &gate)?;
-    assert!(rt; told.has_run && is_as_told(&told, end));
-    assert!(rt; gate.are_free(end));
-    Ok(())
+    }
 }
 
 /// Whether the agents did what they have to do.
-fn is_as_told(told: &Told, end: End) -> bool {
-    let frames = told.frames.as_slice();
-    match (end, told.left.as_slice()) {
+fn is_as_told(told: Told, end: End) -> bool {
+    match end {
         // At most 16 blocks wait, one is taken, and one is at hand.
-        (End::Refused, [first, second]) => {
-            told.refused == 1 && frames == [20, 20].as_slice() && *first == 0 && *second >= 2
+        End::Refused => {
+            told.refused == 1 && told.frames == [20, 20] && told.left[0] == 0 && told.left[1] >= 2
         }
-        (End::Gated, left) => {
-            told.refused == 0 && frames == [3, 3].as_slice() && left == [17, 17].as_slice()
-        }
-        (End::Full, left) => {
-            told.refused == 0 && frames == [15, 15].as_slice() && left == [0, 0].as_slice()
-        }
-        _ => false,
+        End::Gated => told.refused == 0 && told.frames == [3, 3] && told.left == [17, 17],
+        End::Full => told.refused == 0 && told.frames == [15, 15] && told.left == [0, 0],
     }
 }

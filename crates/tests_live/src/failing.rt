@@ -1,10 +1,10 @@
 //! Calls under a lock whose disk fails, or that find no memory: docs/STORAGE.md, "Recovery".
 
-use crate::archives::{Counted, Scenario, Seats, left_by, played, played_again};
+use crate::archives::{Scenario, Seats, played, played_again};
+use crate::left::{Left, Then};
 use crate::seat::Seat;
 use archive_lock::{Naming, SharedArchive};
 use disk_core::Disk;
-use engine_core::Engine;
 use frame_core::Refusal;
 use std::alloc::Global;
 use std::process::Abort;
@@ -12,13 +12,13 @@ use std::sync::Wait;
 use std::test::Fail;
 
 /// Where recording 0 starts, and is recorded to.
-type Place = (i64, i64);
+pub(crate) type Place = (i64, i64);
 
 /// A line, what it is answered, by how many changes of the disk, and where recording 0 lies then.
-type Row = (&'static str, &'static str, u64, Place);
+pub(crate) type Row = (&'static str, &'static str, u64, Place);
 
 // A script that makes each change of an archive: its blocks are a pad of a term and `hello` at 65,536, twice.
-const SCRIPT: [Row; 14] = [
+pub(crate) const SCRIPT: [Row; 14] = [
     (
         "start 1001 7 42 65536 1408 65536 0 1000 c",
         "started 0 0",
@@ -65,7 +65,7 @@ const CALLS: u64 = 48;
 
 /// The script next to a disk of which a call fails.
 #[derive(Clone, Copy)]
-struct Course {
+pub(crate) struct Course {
     /// The number from here on of the call that fails; 0 once one has broken the archive.
     fails_at: Option<u64>,
     /// Where recording 0 lies.
@@ -169,65 +169,8 @@ fn play<D: Disk, A: Naming, R: Wait + Abort>(
     Ok(course)
 }
 
-fn place_of<D: Disk>(engine: &Engine<D>) -> Place {
-    match engine.desk().recording(&0) {
-        Some(found) => (found.descriptor.start_position, found.recorded),
-        None => (-1, -1),
-    }
-}
-
-/// What an archive leaves that was closed.
-#[derive(Clone, Copy)]
-pub(crate) struct Left {
-    /// How many calls were stored, and whether their records were kept.
-    calls: (u64, bool),
-    /// How many changes its disk has seen.
-    changes: u64,
-    /// Where recording 0 lies once it is opened again.
-    place: Place,
-    /// Whether it was opened twice, since a call of the disk failed.
-    is_opened_twice: bool,
-}
-
-/// Where recording 0 of the archive of a disk lies, or the disk.
-fn place_in<D: Disk + Drop>(alloc: Global, disk: D) -> Result<Place, D> {
-    match Engine::open(alloc, disk) {
-        Ok((engine, _)) => Ok(place_of(&engine)),
-        Err(refused) => Err(refused.disk),
-    }
-}
-
-/// The same, and whether the archive was refused at first.
-fn place_found<D: Disk + Drop>(alloc: Global, disk: D) -> Option<(Place, bool)> {
-    match place_in(alloc, disk) {
-        Ok(place) => Some((place, false)),
-        Err(disk) => match place_in(alloc, disk) {
-            Ok(place) => Some((place, true)),
-            Err(_) => None,
-        },
-    }
-}
-
-/// What is left on a disk, where so many calls were stored.
-pub(crate) fn left_on<D: Disk + Counted + Drop>(
-    alloc: Global,
-    disk: D,
-    calls: (u64, bool),
-) -> Result<Left, Refusal> {
-    let changes = disk.changes_seen();
-    match place_found(alloc, disk) {
-        Some((place, is_opened_twice)) => Ok(Left {
-            calls,
-            changes,
-            place,
-            is_opened_twice,
-        }),
-        None => Err(Refusal::DeviceFault),
-    }
-}
-
 /// What was answered is there, and of the call that failed nothing or all. The fault came in the script, or is past its calls.
-fn check_left(rt: &impl Abort, left: Left, course: Course, call: u64) {
+pub(crate) fn check_fault(rt: &impl Abort, left: Left, course: Course, call: u64) {
     assert!(rt;
         left.place == course.place || left.place == course.doubt,
         "{call}"
@@ -236,18 +179,17 @@ fn check_left(rt: &impl Abort, left: Left, course: Course, call: u64) {
 }
 
 /// After the fault both passes are refused, and the archive closes.
-pub(crate) fn faults<D: Disk + Counted + Drop, A: Naming, R: Wait + Abort>(
+pub(crate) fn faults<D: Disk, A: Naming, R: Wait + Abort>(
     rt: &R,
     alloc: Global,
-    archive: SharedArchive<D, A>,
+    archive: &SharedArchive<D, A>,
     mut seats: Seats<A>,
     call: u64,
-) -> Result<(), Fail> {
-    let course = play(rt, alloc, &archive, &mut seats, call);
-    let left = left_by(rt, alloc, archive, seats);
-    let course = course?;
-    check_left(rt, left?, course, call);
-    Ok(())
+) -> Result<(Seats<A>, Then), Fail> {
+    match play(rt, alloc, archive, &mut seats, call) {
+        Ok(course) => Ok((seats, Then::Fault(course, call))),
+        Err(fail) => Err(fail),
+    }
 }
 
 /// Calls under a lock are answered as they have to be, whichever call of the disk fails. The last one is the next opening's
@@ -324,7 +266,7 @@ fn place_after(rows: &[Row], done: usize) -> Place {
 
 /// The history has the calls that were answered, and none that was refused memory. What they left is there and, once all were
 /// answered, the disk has seen no change but theirs.
-fn check_done(rt: &impl Abort, left: Left, rows: &[Row], done: usize, changes: u64) {
+pub(crate) fn check_done(rt: &impl Abort, left: Left, rows: &[Row], done: usize, changes: u64) {
     let next = done.wrapping_add(1).min(rows.len());
     assert!(rt; left.calls.0 == next as u64);
     assert!(rt; done < rows.len() || left.changes == changes);
@@ -332,28 +274,18 @@ fn check_done(rt: &impl Abort, left: Left, rows: &[Row], done: usize, changes: u
 }
 
 /// Two seats make the calls of a script, each again if memory is refused.
-fn again<D: Disk + Counted + Drop, A: Naming, R: Wait + Abort>(
+pub(crate) fn again<D: Disk, A: Naming, R: Wait + Abort>(
     rt: &R,
     alloc: Global,
-    archive: SharedArchive<D, A>,
+    archive: &SharedArchive<D, A>,
     mut seats: Seats<A>,
-    rows: &[Row],
+    rows: &'static [Row],
     changes: u64,
-) -> Result<(), Fail> {
-    let done = rows_answered(rt, alloc, &archive, &mut seats, rows);
-    let left = left_by(rt, alloc, archive, seats);
-    check_done(rt, left?, rows, done?, changes);
-    Ok(())
-}
-
-/// The script that makes each change: 6 changes came before it.
-pub(crate) fn each_again<D: Disk + Counted + Drop, A: Naming, R: Wait + Abort>(
-    rt: &R,
-    alloc: Global,
-    archive: SharedArchive<D, A>,
-    seats: Seats<A>,
-) -> Result<(), Fail> {
-    again(rt, alloc, archive, seats, &SCRIPT, 52)
+) -> Result<(Seats<A>, Then), Fail> {
+    match rows_answered(rt, alloc, archive, &mut seats, rows) {
+        Ok(done) => Ok((seats, Then::Rows(rows, done, changes))),
+        Err(refusal) => Err(Fail::from(refusal)),
+    }
 }
 
 /// Each line that finds no memory changes nothing, and is answered if it is asked again: `trials/refused_memory.py tests` refuses
@@ -365,7 +297,7 @@ fn refused_memory_of_each_call(rt: HostRuntime) -> Result<(), Fail> {
 }
 
 // Replay 0 reads a recording of two frames.
-const READINGS: [Row; 8] = [
+pub(crate) const READINGS: [Row; 8] = [
     (
         "poll 0 1",
         "frame 0 2500000000c001000000000007000000e90300002a000000000000000000000068656c6c6f\nmore 64",
@@ -390,16 +322,6 @@ const READINGS: [Row; 8] = [
     ("verify 0", "verified 2", 0, (0, 128)),
     ("close 1", "closed", 0, (0, 128)),
 ];
-
-/// Calls that read: 21 changes made what is recorded, and its opening synced three files.
-pub(crate) fn reads_again<D: Disk + Counted + Drop, A: Naming, R: Wait + Abort>(
-    rt: &R,
-    alloc: Global,
-    archive: SharedArchive<D, A>,
-    seats: Seats<A>,
-) -> Result<(), Fail> {
-    again(rt, alloc, archive, seats, &READINGS, 24)
-}
 
 /// A poll that finds no memory leaves its replay where it is, and gives its frames if it is asked again.
 #[test]

@@ -1,15 +1,19 @@
 //! A replayer that a recorder's position holds back: docs/ARCHITECTURE.md, "Followers".
 
-ghost use Rattle.std.specs.Prelude.{◌≡◌, ◌<◌};
+ghost use Rattle.std.specs.Prelude.{◌≡◌, ◌<◌, [], IfSome};
+ghost use Rattle.recorder_seats.specs.Seat.{raised_positions};
 
-use crate::agents::block_at;
-use crate::archives::{Scenario, Seats, closed, played};
+use crate::agents::block_of;
+use crate::archives::{Scenario, Seats, played};
+use crate::left::Then;
+use crate::refused_turns::{turn_again, turn_over_damage};
 use crate::seat::Seat;
 use archive_lock::{Naming, SharedArchive};
+use archive_model::Reply;
 use control_core::Event;
 use disk_core::Disk;
-use frame_core::Refusal;
-use position_board::Board;
+use frame_core::{Block, Refusal};
+use position_board::{Board, Reader, Writer};
 use recorder_seats::{BoundedReplayer, RecorderSeat, Turn};
 use std::alloc::Global;
 use std::process::Abort;
@@ -41,35 +45,74 @@ const TURNS: [(&str, i64, &str); 8] = [
     ("close 0: closed\n", 10, "UnknownReplay"),
 ];
 
-/// A recorder, a replayer that its slot holds back, and who makes lines.
+/// A recorder, a replayer that its slot holds back, who makes lines, and a seat that makes no call.
 #[derive(Drop)]
 pub(crate) struct Pair<A: Naming> {
     board: Board,
     recorder: RecorderSeat,
     replayer: BoundedReplayer,
     seat: Seat<A>,
+    fourth: Seat<A>,
     ghost records: { (recorder.pass.table ≡ A.table) × (recorder.writer.table ≡ board) },
     ghost replays: { (replayer.pass.table ≡ A.table) × (replayer.reader.table ≡ board) },
     ghost slot: { replayer.slot < board.words },
 }
 
 impl<A: Naming> Pair<A> {
+    fn put<D: Disk, R: Wait>(
+        &mut self,
+        rt: &R,
+        alloc: Global,
+        archive: &SharedArchive<D, A>,
+        block: Block,
+    ) -> Result<Reply, Refusal> {
+        self.recorder.write(rt, alloc, archive, block)
+    }
+
+    fn settle<D: Disk, R: Wait>(
+        &mut self,
+        rt: &R,
+        alloc: Global,
+        archive: &SharedArchive<D, A>,
+    ) -> Result<i64, Refusal> {
+        self.recorder.settle(rt, alloc, archive, &self.board)
+    }
+
+    fn call<D: Disk, R: Wait>(
+        &mut self,
+        rt: &R,
+        alloc: Global,
+        archive: &SharedArchive<D, A>,
+        event: &Event,
+    ) -> Result<Reply, Refusal> {
+        self.recorder.call(rt, alloc, archive, event)
+    }
+
+    /// Writes the block at an offset of the term.
+    fn write<D: Disk, R: Wait>(
+        &mut self,
+        rt: &R,
+        alloc: Global,
+        archive: &SharedArchive<D, A>,
+        offset: i32,
+    ) -> Result<(), Refusal> {
+        let block = block_of(alloc, 7, offset)?;
+        self.put(rt, alloc, archive, block)?;
+        Ok(())
+    }
+
     /// Two blocks are settled and raised, the third is settled alone.
     fn record<D: Disk, R: Wait>(
         &mut self,
         rt: &R,
         alloc: Global,
         archive: &SharedArchive<D, A>,
-    ) -> Result<(), Fail> {
-        self.recorder
-            .write(rt, alloc, archive, block_at(alloc, 0)?)?;
-        self.recorder
-            .write(rt, alloc, archive, block_at(alloc, 64)?)?;
-        self.recorder.settle(rt, alloc, archive, &self.board)?;
-        self.recorder
-            .write(rt, alloc, archive, block_at(alloc, 128)?)?;
-        let settle = Event::Settle { session: 0 };
-        self.recorder.call(rt, alloc, archive, &settle)?;
+    ) -> Result<(), Refusal> {
+        self.write(rt, alloc, archive, 0)?;
+        self.write(rt, alloc, archive, 64)?;
+        self.settle(rt, alloc, archive)?;
+        self.write(rt, alloc, archive, 128)?;
+        self.call(rt, alloc, archive, &Event::Settle { session: 0 })?;
         Ok(())
     }
 
@@ -84,7 +127,7 @@ impl<A: Naming> Pair<A> {
         match step {
             "" => Ok(()),
             "settle" => {
-                self.recorder.settle(rt, alloc, archive, &self.board)?;
+                self.settle(rt, alloc, archive)?;
                 Ok(())
             }
             line => self.seat.plays(rt, alloc, archive, line),
@@ -102,24 +145,28 @@ impl<A: Naming> Pair<A> {
         self.replayer.turn(rt, alloc, archive, &self.board, max)
     }
 
-    /// A turn, as text.
-    pub(crate) fn turn<D: Disk, R: Wait>(
+    /// A turn gives this, as text.
+    pub(crate) fn gives<D: Disk, R: Wait + Abort>(
         &mut self,
         rt: &R,
         alloc: Global,
         archive: &SharedArchive<D, A>,
         max: i64,
-    ) -> Result<String, Fail> {
-        text_of(alloc, &self.take_turn(rt, alloc, archive, max))
+        gives: &str,
+    ) -> Result<(), Fail> {
+        let turn = text_of(alloc, &self.take_turn(rt, alloc, archive, max))?;
+        assert!(rt; turn.as_str() == gives, "{turn}");
+        Ok(())
     }
 
-    /// The seats again, with one that made no calls.
-    pub(crate) fn into_seats(self, fourth: Seat<A>) -> Seats<A> {
+    /// The seats again.
+    fn into_seats(self) -> Seats<A> {
         let Pair {
             board: _,
             recorder,
             replayer,
             seat,
+            fourth,
         } = self;
         let (first, _) = recorder.into_parts();
         let (second, _) = replayer.into_parts();
@@ -147,48 +194,89 @@ fn text_of(alloc: Global, turn: &Result<Turn, Refusal>) -> Result<String, Fail> 
 }
 
 /// A replayer follows its own archive's recorder. Each turn gains one call, also if it is refused.
-pub(crate) fn one_pair<D: Disk + Drop, A: Naming, R: Wait + Abort>(
+fn follow<D: Disk, A: Naming, R: Wait + Abort>(
     rt: &R,
     alloc: Global,
-    archive: SharedArchive<D, A>,
-    mut seats: Seats<A>,
-) -> Result<(), Fail> {
-    seats.third.plays(rt, alloc, &archive, BEGUN)?;
-    let (mut pair, fourth) = seated(alloc, seats, 0).ok_or("a board")?;
-    pair.record(rt, alloc, &archive)?;
+    archive: &SharedArchive<D, A>,
+    pair: &mut Pair<A>,
+) -> Result<Then, Fail> {
+    pair.seat.plays(rt, alloc, archive, BEGUN)?;
+    pair.record(rt, alloc, archive)?;
     for (step, max, gives) in TURNS {
-        pair.prepare(rt, alloc, &archive, step)?;
-        let turn = pair.turn(rt, alloc, &archive, max)?;
-        assert!(rt; turn.as_str() == gives, "{turn}");
+        pair.prepare(rt, alloc, archive, step)?;
+        pair.gives(rt, alloc, archive, max, gives)?;
     }
-    let calls = closed(alloc, archive, pair.into_seats(fourth));
-    assert!(rt; calls == Some((18, true)));
-    Ok(())
+    Ok(Then::Calls(18))
 }
 
-/// A board of one slot, and the seats at it.
-pub(crate) fn seated<A: Naming>(
+/// What the turns of a replayer are.
+#[derive(Clone, Copy)]
+pub(crate) enum Turning {
+    /// They are held back by the recorder's position.
+    HeldBack,
+    /// They are over damage.
+    Damaged,
+    /// The one is made again if it finds no memory.
+    Again,
+}
+
+/// A pair makes turns, and leaves its seats.
+pub(crate) fn paired<D: Disk, A: Naming, R: Wait + Abort>(
+    rt: &R,
     alloc: Global,
+    archive: &SharedArchive<D, A>,
     seats: Seats<A>,
-    start: i64,
-) -> Option<(Pair<A>, Seat<A>)> {
+    turning: Turning,
+) -> Result<(Seats<A>, Then), Fail> {
+    let start = if let Turning::HeldBack = turning {
+        0
+    } else {
+        128
+    };
+    let Some(mut pair) = seated(alloc, seats, start) else {
+        return Err(Fail::from("a board"));
+    };
+    let then = match turning {
+        Turning::HeldBack => follow(rt, alloc, archive, &mut pair),
+        Turning::Damaged => turn_over_damage(rt, alloc, archive, &mut pair),
+        Turning::Again => turn_again(rt, alloc, archive, &mut pair),
+    };
+    match then {
+        Ok(then) => Ok((pair.into_seats(), then)),
+        Err(fail) => Err(fail),
+    }
+}
+
+/// A board of one slot, its writer, and a reader.
+fn boarded(alloc: Global, start: i64) -> Option<(Board, Writer, Reader)>
+    ensures slot { IfSome result (λ made. made.0.words ≡ 1) }
+    ensures writer { IfSome result (λ made. made.1.table ≡ made.0) }
+    ensures unraised { IfSome result (λ made. raised_positions made.1 ≡ []) }
+    ensures reader { IfSome result (λ made. made.2.table ≡ made.0) }
+{
+    let Ok((board, mut writers, mut readers)) = Board::new(alloc, &[start], 1) else {
+        return None;
+    };
+    match (writers.pop(), readers.pop()) {
+        (Some(writer), Some(reader)) => Some((board, writer, reader)),
+        _ => None,
+    }
+}
+
+/// A pair at such a board.
+fn seated<A: Naming>(alloc: Global, seats: Seats<A>, start: i64) -> Option<Pair<A>> {
+    let (board, writer, reader) = boarded(alloc, start)?;
     let Seats {
         first,
         second,
         third,
         fourth,
     } = seats;
-    let Ok((board, mut writers, mut readers)) = Board::new(alloc, &[start], 1) else {
-        return None;
-    };
-    let (Some(writer), Some(reader)) = (writers.pop(), readers.pop()) else {
-        return None;
-    };
-    let pair = Pair {
+    Some(Pair {
         board,
         recorder: RecorderSeat::new(0, first.into_pass(), writer),
         replayer: BoundedReplayer::new(second.into_pass(), 0, reader, 0),
         seat: third,
-    };
-    Some((pair, fourth))
+        fourth,
+    })
 }

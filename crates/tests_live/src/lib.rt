@@ -15,6 +15,8 @@ mod failing;
 #[cfg(test)]
 mod held_back;
 #[cfg(test)]
+mod left;
+#[cfg(test)]
 mod refused_turns;
 #[cfg(test)]
 mod scenarios;

@@ -1,8 +1,9 @@
 //! Turns of a bounded replayer that are refused over damage, and for want of memory: docs/ARCHITECTURE.md, "Followers".
 
-use crate::agents::block_at;
-use crate::archives::{Scenario, Seats, closed, played, played_again};
-use crate::held_back::{Pair, seated};
+use crate::agents::block_of;
+use crate::archives::{Scenario, played, played_again};
+use crate::held_back::Pair;
+use crate::left::Then;
 use archive_lock::{Naming, SharedArchive};
 use control_core::Event;
 use control_lines::{Line, parse_line};
@@ -81,7 +82,7 @@ fn obey(alloc: Global, engine: &mut Engine<MemoryDisk>, line: &str) -> Result<()
 }
 
 fn write(alloc: Global, engine: &mut Engine<MemoryDisk>, offset: i32) -> Result<(), Refusal> {
-    let block = block_at(alloc, offset)?;
+    let block = block_of(alloc, 7, offset)?;
     step(alloc, engine, &Event::Write { session: 0, block })
 }
 
@@ -93,37 +94,27 @@ fn step(alloc: Global, engine: &mut Engine<MemoryDisk>, event: &Event) -> Result
 }
 
 /// Each turn over damage says so, and gains its call.
-pub(crate) fn damaged_turns<D: Disk + Drop, A: Naming, R: Wait + Abort>(
+pub(crate) fn turn_over_damage<D: Disk, A: Naming, R: Wait + Abort>(
     rt: &R,
     alloc: Global,
-    archive: SharedArchive<D, A>,
-    seats: Seats<A>,
-) -> Result<(), Fail> {
-    let (mut pair, fourth) = seated(alloc, seats, 128).ok_or("a board")?;
-    for _ in 0..2 {
-        let turn = pair.turn(rt, alloc, &archive, 10)?;
-        assert!(rt;
-            turn.as_str() == "Damaged { recording: 0, position: 0 }",
-            "{turn}"
-        );
-    }
-    let calls = closed(alloc, archive, pair.into_seats(fourth));
-    assert!(rt; calls == Some((2, true)));
-    Ok(())
+    archive: &SharedArchive<D, A>,
+    pair: &mut Pair<A>,
+) -> Result<Then, Fail> {
+    let damage = "Damaged { recording: 0, position: 0 }";
+    pair.gives(rt, alloc, archive, 10, damage)?;
+    pair.gives(rt, alloc, archive, 10, damage)?;
+    Ok(Then::Calls(2))
 }
 
 /// A turn, which is made again if it finds no memory, is one call, and gives both frames.
-pub(crate) fn turned_again<D: Disk + Drop, A: Naming, R: Wait + Abort>(
+pub(crate) fn turn_again<D: Disk, A: Naming, R: Wait + Abort>(
     rt: &R,
     alloc: Global,
-    archive: SharedArchive<D, A>,
-    seats: Seats<A>,
-) -> Result<(), Fail> {
-    let (mut pair, fourth) = seated(alloc, seats, 128).ok_or("a board")?;
-    assert!(rt; is_whole(&made_again(rt, alloc, &archive, &mut pair)));
-    let calls = closed(alloc, archive, pair.into_seats(fourth)).ok_or("closed")?;
-    assert!(rt; calls == (1, true));
-    Ok(())
+    archive: &SharedArchive<D, A>,
+    pair: &mut Pair<A>,
+) -> Result<Then, Fail> {
+    assert!(rt; is_whole(&made_again(rt, alloc, archive, pair)));
+    Ok(Then::Calls(1))
 }
 
 fn made_again<D: Disk, A: Naming, R: Wait>(

@@ -1,8 +1,13 @@
 //! The worked scenarios, by calls under a lock.
 
-use crate::archives::{Scenario, Seats, closed, played, stored};
+ghost use Rattle.std.specs.Prelude.{◌≡◌, IfSome};
+ghost use Rattle.call_history.specs.Passes.{AllOfTable};
+
+use crate::archives::{Scenario, Seats, played, stored};
+use crate::left::Then;
 use crate::seat::Seat;
-use archive_lock::{MissingPass, Naming, SharedArchive};
+use archive_lock::{Closed, Held, Made, MissingPass, Naming, SharedArchive};
+use call_history::Pass;
 use disk_core::Disk;
 use std::alloc::Global;
 use std::process::Abort;
@@ -111,9 +116,10 @@ fn closed_twice<D: Disk + Drop, A: Naming>(
     first: Seat<A>,
     second: Seat<A>,
 ) -> Result<(u64, u64, bool), Fail> {
-    let mut given = Vec::new(alloc);
-    given.push(first.into_pass())?;
-    let Err(left) = archive.close(given) else {
+    let Ok(given) = vec![in alloc; first.into_pass()] else {
+        return Err(Fail::from("a list of passes"));
+    };
+    let Some(left) = left_by(archive, given) else {
         return Err(Fail::from("one call is missing"));
     };
     let MissingPass {
@@ -121,16 +127,54 @@ fn closed_twice<D: Disk + Drop, A: Naming>(
         passes: mut given,
         missing,
     } = left;
-    given.push(second.into_pass())?;
-    let Ok(closed) = archive.close(given) else {
-        return Err(Fail::from("both passes are given"));
-    };
-    let (calls, keeps) = stored(&closed.history);
-    Ok((missing, calls, keeps))
+    if given.push(second.into_pass()).is_err() {
+        return Err(Fail::from("a list of passes"));
+    }
+    match stored_by(archive, given) {
+        Some((calls, keeps)) => Ok((missing, calls, keeps)),
+        None => Err(Fail::from("both passes are given")),
+    }
+}
+
+/// What was stored of an archive under no lock that is closed with these passes.
+fn stored_by<D: Disk + Drop, A: Naming>(
+    archive: Held<D, A>,
+    passes: Vec<Pass<Made>>,
+) -> Option<(u64, bool)>
+    requires { AllOfTable A.table passes.items }
+{
+    match closed(archive, passes) {
+        Some(closed) => Some(stored(&closed.history)),
+        None => None,
+    }
+}
+
+/// It, closed.
+fn closed<D: Disk + Drop, A: Naming>(
+    archive: Held<D, A>,
+    passes: Vec<Pass<Made>>,
+) -> Option<Closed<D>>
+    requires { AllOfTable A.table passes.items }
+{
+    archive.close(passes).ok()
+}
+
+/// What comes back of an archive that is closed with too few passes.
+fn left_by<D: Disk + Drop, A: Naming>(
+    archive: SharedArchive<D, A>,
+    passes: Vec<Pass<Made>>,
+) -> Option<MissingPass<D, A>>
+    requires { AllOfTable A.table passes.items }
+    ensures { IfSome result (λ left. left.passes.items ≡ passes.items) }
+{
+    match archive.close(passes) {
+        Ok(_) => None,
+        Err(left) => Some(left),
+    }
 }
 
 /// Two seats make the calls of four scripts in turn.
-fn by_turns<D: Disk, A: Naming, R: Wait + Abort>(
+fn play<D: Disk, A: Naming, R: Wait + Abort>(
     rt: &R,
     alloc: Global,
     archive: &SharedArchive<D, A>,
@@ -143,19 +187,19 @@ fn by_turns<D: Disk, A: Naming, R: Wait + Abort>(
     seats.second.plays(rt, alloc, archive, scripts[3])
 }
 
-/// The same; the archive is closed then, behind so many calls, whose records were kept or not.
-fn by_turns_and_closed<D: Disk + Drop, A: Naming, R: Wait + Abort>(
+/// The same, by which so many calls are stored.
+pub(crate) fn by_turns<D: Disk, A: Naming, R: Wait + Abort>(
     rt: &R,
     alloc: Global,
-    archive: SharedArchive<D, A>,
+    archive: &SharedArchive<D, A>,
     mut seats: Seats<A>,
     scripts: [&str; 4],
-    calls: (u64, bool),
-) -> Result<(), Fail> {
-    let played = by_turns(rt, alloc, &archive, &mut seats, scripts);
-    let stored = closed(alloc, archive, seats);
-    assert!(rt; played.is_err() || stored == Some(calls));
-    played
+    calls: u64,
+) -> Result<(Seats<A>, Then), Fail> {
+    match play(rt, alloc, archive, &mut seats, scripts) {
+        Ok(()) => Ok((seats, Then::Calls(calls))),
+        Err(fail) => Err(fail),
+    }
 }
 
 const BOUNDED_PART: &str = "\
@@ -169,16 +213,8 @@ frame 128 2500000000c001008000000007000000e90300002a000000000000000000000068656c
 done
 ";
 
-pub(crate) fn bounded_part<D: Disk + Drop, A: Naming, R: Wait + Abort>(
-    rt: &R,
-    alloc: Global,
-    archive: SharedArchive<D, A>,
-    seats: Seats<A>,
-    keeps: bool,
-) -> Result<(), Fail> {
-    let scripts = [BOUNDED_PART, "", "", ""];
-    by_turns_and_closed(rt, alloc, archive, seats, scripts, (9, keeps))
-}
+/// One seat makes all calls.
+pub(crate) const BOUNDED_PARTS: [&str; 4] = [BOUNDED_PART, "", "", ""];
 
 const BREAK: &str = "\
 start 1001 7 42 65536 1408 131072 0 1000 c: started 0 0
@@ -204,14 +240,5 @@ more 64
 close 0: closed
 ";
 
-/// A settling's write fails: no pass writes from then on, each reads what was recorded before, and the archive closes.
-pub(crate) fn breaks<D: Disk + Drop, A: Naming, R: Wait + Abort>(
-    rt: &R,
-    alloc: Global,
-    archive: SharedArchive<D, A>,
-    seats: Seats<A>,
-    keeps: bool,
-) -> Result<(), Fail> {
-    let scripts = [BREAK, BROKEN, BROKEN, BROKEN_REPLAY];
-    by_turns_and_closed(rt, alloc, archive, seats, scripts, (22, keeps))
-}
+/// A settling's write fails: no pass writes from then on, and each reads what was recorded before.
+pub(crate) const BREAKS: [&str; 4] = [BREAK, BROKEN, BROKEN, BROKEN_REPLAY];
