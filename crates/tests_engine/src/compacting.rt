@@ -2,9 +2,9 @@
 //! docs/STORAGE.md, "Compaction".
 
 use crate::reference::text_of_book;
-use crate::runs::{Run, compacts, text_found};
-use crate::script::played;
-use catalogue_log::open;
+use crate::runs::Run;
+use crate::scene::{Scene, catalogue_of, compacts};
+use crate::script::play;
 use disk_core::MemoryDisk;
 use frame_core::Refusal;
 use std::alloc::Global;
@@ -35,37 +35,31 @@ impl Stop {
     }
 }
 
-/// The epoch of the catalogue of a disk.
-fn epoch_of(alloc: Global, disk: &mut MemoryDisk) -> Result<u64, Refusal> {
-    let (log, _) = open(alloc, disk)?;
-    Ok(log.epoch())
+/// Compacts, stops and crashes so: whether it stopped as it had to.
+fn stops(alloc: Global, scene: &mut Scene, stop: Stop) -> Result<bool, Refusal> {
+    scene.disk().stop_after(stop.changes);
+    let has_stopped = compacts(alloc, scene.disk()).is_err();
+    scene.crash(stop.choice)?;
+    Ok(has_stopped == (stop.changes < stop.in_all()))
 }
 
-/// Whether the archive of a disk has this epoch and this text.
-fn is_found(alloc: Global, mut disk: MemoryDisk, epoch: u64, text: &[u8]) -> Result<bool, Refusal> {
-    let found = epoch_of(alloc, &mut disk)?;
-    Ok(found == epoch && text_found(alloc, disk)?.as_slice() == text)
+/// Whether the archive has this epoch and this text.
+fn is_found(alloc: Global, scene: &mut Scene, epoch: u64, text: &[u8]) -> Result<bool, Refusal> {
+    Ok(catalogue_of(alloc, scene.disk())?.0 == epoch && scene.found(alloc)?.as_slice() == text)
 }
 
-/// What the crash leaves, and whether the compaction stopped.
-fn stopped(alloc: Global, disk: &MemoryDisk, stop: Stop) -> Result<(MemoryDisk, bool), Refusal> {
-    let mut tried = disk.crash(&[0])?;
-    tried.stop_after(stop.changes);
-    let has_stopped = compacts(alloc, &mut tried).is_err();
-    Ok((tried.crash(&[stop.choice])?, has_stopped))
-}
-
-/// Whether it leaves the text, in the bank that it has to, and whether it stopped as it had to.
+/// Whether a stop leaves the text, in the bank that it has to.
 fn leaves(alloc: Global, disk: &MemoryDisk, stop: Stop, text: &[u8]) -> Result<bool, Refusal> {
-    let (left, has_stopped) = stopped(alloc, disk, stop)?;
-    let is_right = has_stopped == (stop.changes < stop.in_all());
-    Ok(is_right && is_found(alloc, left, stop.left(), text)?)
+    let mut scene = Scene::of(disk.crash(&[0])?);
+    let is_right = stops(alloc, &mut scene, stop)?;
+    Ok(is_right && is_found(alloc, &mut scene, stop.left(), text)?)
 }
 
 const CHOICES: [u8; 3] = [0, 1, 255];
 
 /// Whether each stop of a compaction in this epoch leaves it.
 fn all_leave(alloc: Global, disk: &MemoryDisk, epoch: u64, text: &[u8]) -> Result<bool, Refusal> {
+    let mut all = true;
     for changes in 0..=9u64 {
         for choice in CHOICES {
             let stop = Stop {
@@ -73,35 +67,27 @@ fn all_leave(alloc: Global, disk: &MemoryDisk, epoch: u64, text: &[u8]) -> Resul
                 changes,
                 choice,
             };
-            if changes <= stop.in_all() && !leaves(alloc, disk, stop, text)? {
-                return Ok(false);
-            }
+            all = all && (changes > stop.in_all() || leaves(alloc, disk, stop, text)?);
         }
     }
-    Ok(true)
+    Ok(all)
 }
 
 /// Whether a stop leaves it, and each stop of another compaction after it.
 fn both_leave(alloc: Global, disk: &MemoryDisk, stop: Stop, text: &[u8]) -> Result<bool, Refusal> {
-    if !leaves(alloc, disk, stop, text)? {
-        return Ok(false);
-    }
-    let (left, _) = stopped(alloc, disk, stop)?;
-    all_leave(alloc, &left, stop.left(), text)
-}
-
-/// The disk of an archive after the script, and the text of the plain book.
-fn behind(alloc: Global) -> Result<(MemoryDisk, Vec<u8>), Refusal> {
-    let Run { story, engine, .. } = played(alloc, MemoryDisk::new(alloc))?;
-    let text = text_of_book(alloc, &story.book)?;
-    Ok((engine.into_disk(), text))
+    let mut scene = Scene::of(disk.crash(&[0])?);
+    let is_right = stops(alloc, &mut scene, stop)?;
+    let all_leave = all_leave(alloc, scene.disk(), stop.left(), text)?;
+    Ok(is_right && all_leave && is_found(alloc, &mut scene, stop.left(), text)?)
 }
 
 /// After a stop at any change of two compactions in a row a crash leaves the archive's state, in the bank whose gate was
 /// opened last.
 #[test]
 fn each_stop_of_two_compactions_leaves_the_state(rt: HostRuntime) -> Result<(), Fail> {
-    let (disk, text) = behind(rt.alloc())?;
+    let mut run = Run::new(rt.alloc());
+    play(rt.alloc(), &mut run, "changes")?;
+    let text = text_of_book(rt.alloc(), &run.story.book)?;
     for changes in 0..=7u64 {
         for choice in CHOICES {
             let stop = Stop {
@@ -110,7 +96,7 @@ fn each_stop_of_two_compactions_leaves_the_state(rt: HostRuntime) -> Result<(), 
                 choice,
             };
             assert!(rt;
-                both_leave(rt.alloc(), &disk, stop, text.as_slice())?,
+                both_leave(rt.alloc(), run.scene.disk(), stop, text.as_slice())?,
                 "{changes} {choice}"
             );
         }

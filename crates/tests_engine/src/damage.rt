@@ -1,14 +1,14 @@
 //! Calls over segment files that are damaged, with a recording beside that is active: docs/STORAGE.md, "Damaged frames" and
 //! "Boundaries". Each test's lines are answered the same whatever the damage is.
 
-use crate::calls::{goes_on, leaves, open, plays};
-use disk_core::{Disk, FileId, MemoryDisk};
+use crate::scene::plays;
 use std::alloc::Global;
 use std::process::Abort;
 use std::test::Fail;
 
 // Recording 0 has three terms, each in a file of its own. Recording 1 has a file, and so has recording 2, which is active.
 const RECORDED: &str = "\
+make 64: done
 start 0: started 0 0
 write 0 0: written 64
 write 0 64: written 128
@@ -32,57 +32,18 @@ write 2 0: written 64
 settle 2: settled 64
 ";
 
-/// What is done to a segment file.
-#[derive(Clone, Copy)]
-enum Damage {
-    /// So many bytes of it are left.
-    Cut(u64),
-    /// Its first frame's header has the term offset 32.
-    Turned,
-    /// It is removed.
-    Gone,
+// The file of the second term of recording 0 is cut, its first frame's header has the term offset 32, and it is gone. `hello`
+// takes 37 bytes, 32 of them of its header.
+const DAMAGES: [&str; 3] = [
+    "cut 0 65536 36: done\n",
+    "turn 0 65536 8 32: done\n",
+    "remove 0 65536: done\n",
+];
+
+/// The archive of the calls above has to answer as a script says once it is damaged so.
+fn answers_over(rt: &impl Abort, alloc: Global, damage: &str, script: &str) -> Result<(), Fail> {
+    plays(rt, alloc, &[RECORDED, damage, "open: 1\n", script])
 }
-
-// `hello` takes 37 bytes, 32 of them of its header.
-const DAMAGES: [Damage; 3] = [Damage::Cut(36), Damage::Turned, Damage::Gone];
-
-/// The disk, on which a segment file is damaged and synced.
-fn with_damage(disk: MemoryDisk, file: FileId, how: Damage) -> Result<MemoryDisk, Fail> {
-    let mut disk = disk;
-    match how {
-        Damage::Cut(left) => disk.cut(file, left)?,
-        Damage::Turned => disk.write_at(file, 8, &[32])?,
-        Damage::Gone => disk.remove(file)?,
-    }
-    disk.sync(file)?;
-    Ok(disk)
-}
-
-/// The disk behind the calls above, on which the file of a recording that begins at a base is damaged.
-fn damaged(
-    rt: &impl Abort,
-    alloc: Global,
-    (recording, base): (i64, i64),
-    how: Damage,
-) -> Result<MemoryDisk, Fail> {
-    let disk = plays(rt, alloc, MemoryDisk::new(alloc), 64, RECORDED)?;
-    with_damage(disk, FileId::Segment { recording, base }, how)
-}
-
-/// The archive of such a disk has to answer as a script says.
-fn answers_over(
-    rt: &impl Abort,
-    alloc: Global,
-    file: (i64, i64),
-    how: Damage,
-    script: &str,
-) -> Result<(), Fail> {
-    let disk = damaged(rt, alloc, file, how)?;
-    goes_on(rt, alloc, disk, script)
-}
-
-// The second term of recording 0.
-const SECOND_TERM: (i64, i64) = (0, 65_536);
 
 const READINGS: &str = "\
 extend 2 64: extended 0
@@ -121,7 +82,7 @@ end 3
 #[test]
 fn readings_over_damage(rt: HostRuntime) -> Result<(), Fail> {
     for how in DAMAGES {
-        answers_over(&rt, rt.alloc(), SECOND_TERM, how, READINGS)?;
+        answers_over(&rt, rt.alloc(), how, READINGS)?;
     }
     Ok(())
 }
@@ -153,7 +114,7 @@ positions 0: positions 0 131072 131072
 #[test]
 fn a_whole_term_past_damage(rt: HostRuntime) -> Result<(), Fail> {
     for how in DAMAGES {
-        answers_over(&rt, rt.alloc(), SECOND_TERM, how, LATER_TERM)?;
+        answers_over(&rt, rt.alloc(), how, LATER_TERM)?;
     }
     Ok(())
 }
@@ -180,7 +141,7 @@ verify 0: verified 3
 #[test]
 fn a_term_that_is_damaged(rt: HostRuntime) -> Result<(), Fail> {
     for how in DAMAGES {
-        answers_over(&rt, rt.alloc(), SECOND_TERM, how, SAME_TERM)?;
+        answers_over(&rt, rt.alloc(), how, SAME_TERM)?;
     }
     Ok(())
 }
@@ -210,6 +171,7 @@ verify 3: verified 1
 ";
 
 const RECORDED_THEN: &str = "\
+open: 2
 list 0 9: recording 0 1000 3000 65536 131200 42 65536 65536 1408 7 1001 c
 recording 2 1000 -1 0 128 42 65536 65536 1408 7 1001 c
 recording 3 1000 -1 64 128 42 65536 65536 1408 7 1001 c
@@ -226,19 +188,13 @@ frame 131200 2500000000c001008000000007000000e90300002c0000000000000000000000686
 more 131264
 ";
 
-/// Commands over damage, a crash behind them, and the archive that it leaves.
-fn are_kept(rt: &impl Abort, alloc: Global, how: Damage, choice: u8) -> Result<(), Fail> {
-    let disk = damaged(rt, alloc, SECOND_TERM, how)?;
-    let disk = leaves(rt, alloc, disk, COMMANDS)?;
-    goes_on(rt, alloc, disk.crash(&[choice])?, RECORDED_THEN)
-}
-
 /// Each command that an archive over damage answers is there for another opening.
 #[test]
 fn commands_over_damage_are_kept(rt: HostRuntime) -> Result<(), Fail> {
     for how in DAMAGES {
-        for choice in [0, 1, 255] {
-            are_kept(&rt, rt.alloc(), how, choice)?;
+        for crash in ["crash 0: done\n", "crash 1: done\n", "crash 255: done\n"] {
+            let parts = [RECORDED, how, "open: 1\n", COMMANDS, crash, RECORDED_THEN];
+            plays(&rt, rt.alloc(), &parts)?;
         }
     }
     Ok(())
@@ -284,8 +240,12 @@ verify 2: verified 1
 /// A recording that is damaged goes on: what is recorded from then on is there, and what is written over the damage too.
 #[test]
 fn an_active_recording_is_damaged(rt: HostRuntime) -> Result<(), Fail> {
-    for how in [Damage::Cut(16), Damage::Turned, Damage::Gone] {
-        answers_over(&rt, rt.alloc(), (2, 0), how, ACTIVE)?;
+    for how in [
+        "cut 2 0 16: done\n",
+        "turn 2 0 8 32: done\n",
+        "remove 2 0: done\n",
+    ] {
+        answers_over(&rt, rt.alloc(), how, ACTIVE)?;
     }
     Ok(())
 }
@@ -304,57 +264,48 @@ more 64
 /// A payload that is cut reads as zeros once a later block is written into its file: no reading finds that any more.
 #[test]
 fn a_payload_that_is_cut(rt: HostRuntime) -> Result<(), Fail> {
-    answers_over(&rt, rt.alloc(), (2, 0), Damage::Cut(36), WRITTEN_PAST)
+    answers_over(&rt, rt.alloc(), "cut 2 0 36: done\n", WRITTEN_PAST)
 }
 
-const PURGES: [(Damage, &str); 3] = [
-    (Damage::Cut(36), "sweep: swept 1\nsweep: swept 1\n"),
-    (Damage::Turned, "sweep: swept 1\nsweep: swept 1\n"),
-    (Damage::Gone, "sweep: swept 1\nsweep: swept 0\n"),
+// A file that is gone is not swept.
+const PURGES: [(&str, &str); 3] = [
+    ("cut 0 65536 36: done\n", "sweep: swept 1\nsweep: swept 1\n"),
+    (
+        "turn 0 65536 8 32: done\n",
+        "sweep: swept 1\nsweep: swept 1\n",
+    ),
+    ("remove 0 65536: done\n", "sweep: swept 1\nsweep: swept 0\n"),
 ];
-
-/// What is swept behind a purge.
-fn swept(rt: &impl Abort, alloc: Global, how: Damage, sweeps: &str) -> Result<MemoryDisk, Fail> {
-    let disk = damaged(rt, alloc, SECOND_TERM, how)?;
-    let disk = leaves(rt, alloc, disk, "purge-segments 0 131072: purged 2\n")?;
-    leaves(rt, alloc, disk, sweeps)
-}
 
 /// A damaged segment can be purged, and is swept if it is there; what is left is whole.
 #[test]
 fn a_damaged_segment_is_purged(rt: HostRuntime) -> Result<(), Fail> {
     for (how, sweeps) in PURGES {
-        let disk = swept(&rt, rt.alloc(), how, sweeps)?;
-        goes_on(
-            &rt,
-            rt.alloc(),
-            disk,
-            "sweep: swept 0\nverify 0: verified 2\n",
-        )?;
+        let parts = [
+            RECORDED,
+            how,
+            "open: 1\npurge-segments 0 131072: purged 2\nopen: 0\n",
+            sweeps,
+            "open: 0\nsweep: swept 0\nverify 0: verified 2\n",
+        ];
+        plays(&rt, rt.alloc(), &parts)?;
     }
     Ok(())
 }
 
-/// How many changes of the disk an opening over damage makes, and how many recordings it stops.
-fn changes_of_opening(rt: &impl Abort, alloc: Global, how: Damage) -> Result<(u64, i64), Fail> {
-    let disk = damaged(rt, alloc, SECOND_TERM, how)?;
-    let before = disk.changes();
-    let (engine, stopped) = open(alloc, disk)?;
-    Ok((engine.into_disk().changes().wrapping_sub(before), stopped))
-}
+// The calls above make 62 changes, and the damage two; an opening makes eleven or ten.
+const OPENINGS: [(&str, &str); 3] = [
+    ("cut 0 65536 36: done\n", "changes: 75\n"),
+    ("turn 0 65536 8 32: done\n", "changes: 75\n"),
+    ("remove 0 65536: done\n", "changes: 74\n"),
+];
 
 /// An opening reads no frames: it syncs two banks and the segment files that are there, and commits a restart by four calls.
 #[test]
 fn an_opening_over_damage(rt: HostRuntime) -> Result<(), Fail> {
-    for (how, changes) in [
-        (Damage::Cut(36), 11),
-        (Damage::Turned, 11),
-        (Damage::Gone, 10),
-    ] {
-        assert!(rt;
-            changes_of_opening(&rt, rt.alloc(), how)? == (changes, 1),
-            "{changes}"
-        );
+    for (how, changes) in OPENINGS {
+        let parts = [RECORDED, how, "changes: 64\nopen: 1\n", changes];
+        plays(&rt, rt.alloc(), &parts)?;
     }
     Ok(())
 }
@@ -369,23 +320,31 @@ truncate 0 65600: error 15 Damaged 0 65536
 truncate 0 131104: error 5 BadPosition
 ";
 
-/// How many changes of the disk those readings and refused calls make behind an opening.
-fn changes_of_looks(rt: &impl Abort, alloc: Global, how: Damage) -> Result<u64, Fail> {
-    let disk = leaves(rt, alloc, damaged(rt, alloc, SECOND_TERM, how)?, "")?;
-    let before = disk.changes();
-    // Nothing is active, so the second opening syncs six or seven files and changes nothing else.
-    let disk = leaves(rt, alloc, disk, LOOKS)?;
-    Ok(disk.changes().wrapping_sub(before))
-}
+// Nothing is active after the first opening, so the second one syncs six or seven files and changes nothing else.
+const LOOKED: [(&str, &str, &str); 3] = [
+    (
+        "cut 0 65536 36: done\n",
+        "changes: 75\nopen: 0\n",
+        "changes: 82\n",
+    ),
+    (
+        "turn 0 65536 8 32: done\n",
+        "changes: 75\nopen: 0\n",
+        "changes: 82\n",
+    ),
+    (
+        "remove 0 65536: done\n",
+        "changes: 74\nopen: 0\n",
+        "changes: 80\n",
+    ),
+];
 
 /// Readings and refused calls over a damaged segment file change nothing on the disk.
 #[test]
 fn looks_over_damage_change_nothing(rt: HostRuntime) -> Result<(), Fail> {
-    for (how, changes) in [(Damage::Cut(36), 7), (Damage::Turned, 7), (Damage::Gone, 6)] {
-        assert!(rt;
-            changes_of_looks(&rt, rt.alloc(), how)? == changes,
-            "{changes}"
-        );
+    for (how, before, after) in LOOKED {
+        let parts = [RECORDED, how, "open: 1\n", before, LOOKS, after];
+        plays(&rt, rt.alloc(), &parts)?;
     }
     Ok(())
 }

@@ -1,8 +1,7 @@
 //! Polls whose frames are handed on: docs/CONTROL.md, "Replays".
 
-use crate::calls::{made, run};
-use disk_core::MemoryDisk;
-use engine_core::{Engine, Poll};
+use crate::scene::Scene;
+use engine_core::Poll;
 use frame_core::{FrameRef, Refusal};
 use replay_core::FrameTaker;
 use std::alloc::{AllocError, Global};
@@ -10,11 +9,21 @@ use std::test::Fail;
 
 /// Where frames begin that carry `hello`, so many at most: then there is no memory.
 #[derive(Drop)]
-pub struct Starts {
+struct Starts {
     /// Where they begin.
-    pub found: Vec<i64>,
+    found: Vec<i64>,
     /// How many there may be.
-    pub most: usize,
+    most: usize,
+}
+
+impl Starts {
+    /// None yet.
+    fn new(alloc: Global, most: usize) -> Starts {
+        Starts {
+            found: Vec::new(alloc),
+            most,
+        }
+    }
 }
 
 impl FrameTaker for Starts {
@@ -38,38 +47,48 @@ impl FrameTaker for Starts {
     }
 }
 
-/// Three frames are recorded, of 64 bytes each, and a replay of them is open.
-fn replayed(alloc: Global) -> Result<Engine<MemoryDisk>, Refusal> {
-    let mut engine = made(alloc, MemoryDisk::new(alloc), 16)?;
-    run(
-        alloc,
-        &mut engine,
-        "start 0\nwrite 0 0\nwrite 0 64\nwrite 0 128\nsettle 0\nstop 0 2000\nreplay 0 0 -1",
-    )?;
-    Ok(engine)
+const REPLAYED: &str = "\
+make 16
+start 0
+write 0 0
+write 0 64
+write 0 128
+settle 0
+stop 0 2000
+replay 0 0 -1
+";
+
+/// What a poll is answered, and where the frames begin that it hands on, if they are so many at most.
+pub fn handed(
+    alloc: Global,
+    scene: &mut Scene,
+    poll: &Poll,
+    most: usize,
+) -> Result<String, Refusal> {
+    let mut taker = Starts::new(alloc, most);
+    let next = scene.archive()?.hand_on(alloc, poll, &mut taker);
+    Ok(format!(in alloc; "{next:?} {:?}", taker.found.as_slice())?)
 }
 
 /// A replay whose taker has no memory stays where it was, and what is handed on then is what a poll gives.
 #[test]
 fn frames_are_handed_on(rt: HostRuntime) -> Result<(), Fail> {
-    let mut engine = replayed(rt.alloc())?;
-    for (replay, max, limit, most, outcome, starts) in [
-        (7, 10, None, 9, Err(Refusal::UnknownReplay), &[][..]),
-        (0, 0, None, 9, Err(Refusal::BadParameter), &[]),
-        (0, 10, Some(-1), 9, Err(Refusal::BadParameter), &[]),
-        (0, 10, Some(0), 9, Ok(Some(0)), &[]),
-        (0, 10, None, 1, Err(Refusal::NoMemory), &[0]),
-        (0, 10, Some(64), 9, Ok(Some(64)), &[0]),
-        (0, 1, Some(129), 9, Ok(Some(128)), &[64]),
-        (0, 10, None, 9, Ok(None), &[128]),
-        (0, 10, Some(0), 9, Ok(None), &[]),
+    let mut scene = Scene::new(rt.alloc());
+    scene.run(rt.alloc(), REPLAYED, 8)?;
+    for (replay, max, limit, most, outcome) in [
+        (7, 10, None, 9, "Err(UnknownReplay) []"),
+        (0, 0, None, 9, "Err(BadParameter) []"),
+        (0, 10, Some(-1), 9, "Err(BadParameter) []"),
+        (0, 10, Some(0), 9, "Ok(Some(0)) []"),
+        (0, 10, None, 1, "Err(NoMemory) [0]"),
+        (0, 10, Some(64), 9, "Ok(Some(64)) [0]"),
+        (0, 1, Some(129), 9, "Ok(Some(128)) [64]"),
+        (0, 10, None, 9, "Ok(None) [128]"),
+        (0, 10, Some(0), 9, "Ok(None) []"),
     ] {
         let poll = Poll { replay, max, limit };
-        let found = Vec::new(rt.alloc());
-        let mut taker = Starts { found, most };
-        let handed = engine.hand_on(rt.alloc(), &poll, &mut taker);
-        assert!(rt; handed == outcome, "{poll:?} {most}");
-        assert!(rt; taker.found.as_slice() == starts, "{poll:?} {most}");
+        let text = handed(rt.alloc(), &mut scene, &poll, most)?;
+        assert!(rt; text.as_str() == outcome, "{poll:?} {most}");
     }
     Ok(())
 }

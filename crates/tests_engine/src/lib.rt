@@ -32,6 +32,8 @@ mod runs;
 #[cfg(test)]
 mod scenarios;
 #[cfg(test)]
+mod scene;
+#[cfg(test)]
 mod script;
 #[cfg(test)]
 mod syncs;

@@ -1,11 +1,8 @@
 //! Readings and openings of which each call of the disk fails: nothing is broken, and the next try finds the same.
 //! docs/STORAGE.md, "Recovery".
 
-use crate::calls::{leaves, opened};
-use crate::runs::text_found;
-use crate::script::{disk_after, put};
-use disk_core::MemoryDisk;
-use engine_core::{Engine, OpenRefusal};
+use crate::scene::{Scene, answers};
+use crate::script::{put, run_script};
 use frame_core::Refusal;
 use std::alloc::{AllocError, Global};
 use std::process::Abort;
@@ -25,82 +22,79 @@ const READINGS: [(&str, &str, u64); 6] = [
     ("close 0", "closed", 0),
 ];
 
-/// Adds the readings: the one that makes the call of this number is answered by a fault, and is made again.
-fn put_readings(text: &mut String, fails_at: u64) -> Result<(), AllocError> {
+/// The readings and their answers: the one that makes the call of this number is answered by a fault, and is made again.
+fn expected(alloc: Global, fails_at: u64) -> Result<String, AllocError> {
+    let mut text = String::from_str(alloc, "open: 0\n")?;
     let mut made = 0u64;
     for (call, reply, calls) in READINGS {
         let next = made.wrapping_add(calls);
         if made < fails_at && fails_at <= next {
-            put(text, call, "error 17 DeviceFault")?;
+            put(&mut text, call, "error 17 DeviceFault")?;
         }
-        put(text, call, reply)?;
+        put(&mut text, call, reply)?;
         made = next;
     }
-    Ok(())
+    text.push_str("changes: 55\n")?;
+    Ok(text)
 }
 
-/// The readings and their answers where the call of this number fails.
-fn expected(alloc: Global, fails_at: u64) -> Result<String, AllocError> {
-    let mut text = String::new(alloc);
-    put_readings(&mut text, fails_at).and(Ok(text))
-}
-
-/// Each reading over the script's archive is answered so, and by no change of the disk.
-fn are_answered(rt: &impl Abort, alloc: Global, fails_at: u64) -> Result<(), Fail> {
-    let script = expected(alloc, fails_at)?;
-    let mut disk = disk_after(alloc, 14)?;
-    let changes = disk.changes();
+/// Each reading over the script's archive is answered so, and by no change of the disk but the three syncs of an opening.
+fn are_answered(
+    rt: &impl Abort,
+    alloc: Global,
+    scene: &mut Scene,
+    fails_at: u64,
+) -> Result<(), Fail> {
+    scene.clear(alloc);
+    run_script(alloc, scene, 14)?;
     // An opening lists, syncs a segment file and both banks, and reads these by three calls.
-    disk.fail_at(fails_at.wrapping_add(7));
-    let disk = leaves(rt, alloc, disk, script.as_str())?;
-    assert!(rt; disk.changes() == changes.wrapping_add(3));
-    Ok(())
+    scene.disk().fail_at(fails_at.wrapping_add(7));
+    answers(rt, alloc, scene, expected(alloc, fails_at)?.as_str())
 }
 
 /// If a disk call of a reading fails, that reading is answered DeviceFault, the archive is not broken, and the next try
 /// answers as usual.
 #[test]
 fn a_failed_reading_breaks_nothing(rt: HostRuntime) -> Result<(), Fail> {
+    let mut scene = Scene::new(rt.alloc());
     for fails_at in 1..=6u64 {
-        are_answered(&rt, rt.alloc(), fails_at)?;
+        are_answered(&rt, rt.alloc(), &mut scene, fails_at)?;
     }
     Ok(())
 }
 
-/// The disk that an opening gives back if a call of it fails.
-fn given_back(alloc: Global, disk: MemoryDisk) -> Option<MemoryDisk> {
-    match Engine::open(alloc, disk) {
-        Ok(_opened) => None,
-        Err(OpenRefusal { refusal, disk }) => {
-            if refusal == Refusal::DeviceFault {
-                Some(disk)
-            } else {
-                None
-            }
-        }
-    }
+/// Whether the call of this number fails an opening after so many rows of the script, and whether another one finds a text then.
+fn found_again(
+    alloc: Global,
+    rows: usize,
+    call: u64,
+    text: &[u8],
+) -> Result<(bool, bool), Refusal> {
+    let mut scene = Scene::new(alloc);
+    run_script(alloc, &mut scene, rows)?;
+    scene.disk().fail_at(call);
+    let has_failed = scene.open(alloc) == Err(Refusal::DeviceFault);
+    let is_found = has_failed && scene.found(alloc)?.as_slice() == text;
+    Ok((has_failed, is_found))
 }
 
-/// What is found by another opening, if the call of this number fails in the first one.
-fn found_again(alloc: Global, rows: usize, call: u64) -> Result<Option<Vec<u8>>, Refusal> {
-    let mut disk = disk_after(alloc, rows)?;
-    disk.fail_at(call);
-    match given_back(alloc, disk) {
-        Some(disk) => Ok(Some(text_found(alloc, disk)?)),
-        None => Ok(None),
-    }
+/// What an opening finds after so many rows of the script.
+fn found(alloc: Global, rows: usize) -> Result<Vec<u8>, Refusal> {
+    let mut scene = Scene::new(alloc);
+    run_script(alloc, &mut scene, rows)?;
+    scene.found(alloc)
 }
 
 /// Whether each of so many calls fails an opening after so many rows of the script, and no further one; and whether another
 /// opening finds what the first would have found.
 fn are_found(alloc: Global, rows: usize, calls: u64) -> Result<bool, Refusal> {
-    let text = text_found(alloc, disk_after(alloc, rows)?)?;
+    let text = found(alloc, rows)?;
     for call in 1..=calls {
-        if found_again(alloc, rows, call)?.as_ref() != Some(&text) {
+        if found_again(alloc, rows, call, text.as_slice())? != (true, true) {
             return Ok(false);
         }
     }
-    Ok(found_again(alloc, rows, calls.wrapping_add(1))?.is_none())
+    Ok(found_again(alloc, rows, calls.wrapping_add(1), text.as_slice())? == (false, false))
 }
 
 /// Without an active recording, and with one, which is stopped by four calls.

@@ -1,16 +1,13 @@
 //! Replays through pages: docs/STORAGE.md, "Pages". Which polls make a call of the disk, and that none gives what a page has
 //! and the recording does not.
 
-use crate::calls::{answer, answers, disk_behind, event_of, made, plays, run};
-use archive_model::{PolledFrame, Reply};
-use control_core::{Event, Request};
-use disk_core::MemoryDisk;
-use engine_core::Engine;
+use crate::scene::{Scene, calls_behind, plays};
 use frame_core::Refusal;
 use std::alloc::Global;
 use std::test::Fail;
 
 const TWO_REPLAYS: &str = "\
+make 16
 start 0
 pad 0 0
 settle 0
@@ -22,6 +19,7 @@ poll 1 1
 
 // The first term is purged, and its file is removed.
 const PURGED: &str = "\
+make 16
 start 0
 pad 0 0
 settle 0
@@ -38,12 +36,8 @@ poll 1 10
 
 /// How many calls of the disk a new archive makes for the call of this number, from 1, of a script.
 fn calls_of(alloc: Global, script: &str, number: usize) -> Result<u64, Refusal> {
-    let before = disk_behind(alloc, script, number.wrapping_sub(1))?.calls();
-    Ok(
-        disk_behind(alloc, script, number)?
-            .calls()
-            .wrapping_sub(before),
-    )
+    let before = calls_behind(alloc, script, number.wrapping_sub(1))?;
+    Ok(calls_behind(alloc, script, number)?.wrapping_sub(before))
 }
 
 /// The first poll of a pad reads the pages of its term, and the next one finds them. A purge takes nothing from those that
@@ -63,6 +57,7 @@ fn polls_of_kept_pages_make_no_call(rt: HostRuntime) -> Result<(), Fail> {
 }
 
 const FOLLOWED: &str = "\
+make 16: done
 start 0: started 0 0
 write 0 0: written 64
 settle 0: settled 64
@@ -82,6 +77,7 @@ more 128
 
 // `hello` at 64 is not settled, and a pad takes its place.
 const REPLACED: &str = "\
+make 16: done
 start 0: started 0 0
 write 0 0: written 64
 settle 0: settled 64
@@ -104,14 +100,14 @@ more 65536
 /// A replay follows what is settled, and is given nothing else.
 #[test]
 fn replays_follow_what_is_settled(rt: HostRuntime) -> Result<(), Fail> {
-    for script in [FOLLOWED, REPLACED] {
-        plays(&rt, rt.alloc(), MemoryDisk::new(rt.alloc()), 16, script)?;
-    }
-    Ok(())
+    plays(&rt, rt.alloc(), &[FOLLOWED])?;
+    plays(&rt, rt.alloc(), &[REPLACED])
 }
 
 // The write of the second pad fails.
 const FAILED_WRITE: &str = "\
+fail-at 19: done
+make 16: done
 start 0: started 0 0
 pad 0 0: written 65536
 settle 0: settled 65536
@@ -127,6 +123,8 @@ more 65536
 
 // The first sweep does not remove the file of the first pad.
 const FAILED_SWEEP: &str = "\
+fail-at 30: done
+make 16: done
 start 0: started 0 0
 pad 0 0: written 65536
 settle 0: settled 65536
@@ -147,100 +145,70 @@ sweep: swept 0
 /// The call of this number fails: of the disk of a new archive the first seven are those of its creation.
 #[test]
 fn pages_stay_if_a_call_fails(rt: HostRuntime) -> Result<(), Fail> {
-    for (call, script) in [(19, FAILED_WRITE), (30, FAILED_SWEEP)] {
-        let mut disk = MemoryDisk::new(rt.alloc());
-        disk.fail_at(call);
-        plays(&rt, rt.alloc(), disk, 16, script)?;
-    }
-    Ok(())
+    plays(&rt, rt.alloc(), &[FAILED_WRITE])?;
+    plays(&rt, rt.alloc(), &[FAILED_SWEEP])
 }
 
 /// Writes 64 bytes at each of the positions from one to another by a session, and settles them together.
 fn record(
     alloc: Global,
-    engine: &mut Engine<MemoryDisk>,
+    scene: &mut Scene,
     word: &str,
     session: i64,
     from: i64,
 ) -> Result<(), Refusal> {
-    let mut events = Vec::new(alloc);
-    for index in 0..128i64 {
-        let at = index.wrapping_mul(64);
-        if at >= from {
-            events.push(event_of(alloc, word, session, at, 0)?)?;
-        }
+    for index in from..128 {
+        let line = format!(in alloc; "{word} {session} {}", index.wrapping_mul(64))?;
+        scene.answered(alloc, line.as_str())?;
     }
-    events.push(event_of(alloc, "settle", session, 0, 0)?)?;
-    engine.drive(alloc, events.as_slice())?;
-    Ok(())
+    let line = format!(in alloc; "settle {session}")?;
+    scene.run(alloc, line.as_str(), 1)
 }
 
-/// The frames that a replay of a number gives.
-fn polled(
-    alloc: Global,
-    engine: &mut Engine<MemoryDisk>,
-    replay: i64,
-) -> Result<Vec<PolledFrame>, Refusal> {
-    match answer(alloc, engine, &Event::ReplayPoll { replay, max: 1_000 })? {
-        Reply::Polled { frames, .. } => Ok(frames.into_vec()),
-        _ => Err(Refusal::BadLine),
-    }
-}
-
-/// How many frames carry these five bytes.
-fn count(frames: &[PolledFrame], payload: &[u8; 5]) -> usize {
-    frames
-        .iter()
-        .filter(|given| given.frame.payload.as_slice() == payload.as_slice())
+/// How many lines of a text end so.
+fn count(text: &[u8], end: &[u8]) -> usize {
+    text.split(|byte| *byte == b'\n')
+        .filter(|line| line.ends_with(end))
         .count()
 }
 
 /// How many frames with `hello` and with `world` a replay from the start gives.
-fn counted(
-    alloc: Global,
-    engine: &mut Engine<MemoryDisk>,
-    replay: i64,
-) -> Result<(usize, usize), Refusal> {
-    run(alloc, engine, "replay 0 0 -1")?;
-    let frames = polled(alloc, engine, replay)?;
-    run(alloc, engine, "close 0\nclose 1")?;
-    Ok((count(&frames, b"hello"), count(&frames, b"world")))
+fn counted(alloc: Global, scene: &mut Scene, replay: i64) -> Result<(usize, usize), Refusal> {
+    scene.run(alloc, "replay 0 0 -1", 1)?;
+    let line = format!(in alloc; "poll {replay} 1000")?;
+    let text = scene.answered(alloc, line.as_str())?;
+    scene.run(alloc, "close 0\nclose 1", 2)?;
+    Ok((
+        count(text.as_slice(), b"68656c6c6f"),
+        count(text.as_slice(), b"776f726c64"),
+    ))
 }
 
 /// What a replay gives of 8,192 bytes of `hello`, and one of the first `hello` and of `world` that took the others' place.
-fn truncated(alloc: Global) -> Result<((usize, usize), (usize, usize)), Refusal> {
-    let mut engine = made(alloc, MemoryDisk::new(alloc), 16)?;
-    run(alloc, &mut engine, "start 0")?;
-    record(alloc, &mut engine, "write", 0, 0)?;
-    let before = counted(alloc, &mut engine, 0)?;
-    run(
-        alloc,
-        &mut engine,
-        "stop 0 2000\ntruncate 0 64\nextend 0 64",
-    )?;
-    record(alloc, &mut engine, "world", 1, 64)?;
-    Ok((before, counted(alloc, &mut engine, 1)?))
+fn truncated(
+    alloc: Global,
+    scene: &mut Scene,
+) -> Result<((usize, usize), (usize, usize)), Refusal> {
+    scene.run(alloc, "make 16\nstart 0", 2)?;
+    record(alloc, scene, "write", 0, 0)?;
+    let before = counted(alloc, scene, 0)?;
+    scene.run(alloc, "stop 0 2000\ntruncate 0 64\nextend 0 64", 3)?;
+    record(alloc, scene, "world", 1, 1)?;
+    Ok((before, counted(alloc, scene, 1)?))
 }
 
 /// Two pages lie whole below the recorded position, before a truncation and after it.
 #[test]
 fn no_page_outlives_a_truncation(rt: HostRuntime) -> Result<(), Fail> {
-    assert!(rt; truncated(rt.alloc())? == ((128, 0), (1, 127)));
+    let mut scene = Scene::new(rt.alloc());
+    let found = truncated(rt.alloc(), &mut scene)?;
+    assert!(rt; found == ((128, 0), (1, 127)));
     Ok(())
 }
 
-/// The start of a recording with segments of two terms.
-fn start_of_two(alloc: Global) -> Result<Event, Refusal> {
-    match event_of(alloc, "start", 0, 0, 0)? {
-        Event::Ask(Request::Start(mut fields)) => {
-            fields.segment_length = 131_072;
-            Ok(Event::Ask(Request::Start(fields)))
-        }
-        event => Ok(event),
-    }
-}
-
 const BEHIND_A_PAD: &str = "\
+make 16: done
+start-of-two 0: started 0 0
 pad 0 0: written 65536
 settle 0: settled 65536
 replay 0 0 -1: replay 0
@@ -259,8 +227,5 @@ more 65600
 /// A block in the same file grows it over the range of a pad whose page is kept.
 #[test]
 fn a_block_behind_a_pad(rt: HostRuntime) -> Result<(), Fail> {
-    let mut engine = made(rt.alloc(), MemoryDisk::new(rt.alloc()), 16)?;
-    let start = start_of_two(rt.alloc())?;
-    let _ = answer(rt.alloc(), &mut engine, &start)?;
-    answers(&rt, rt.alloc(), &mut engine, BEHIND_A_PAD)
+    plays(&rt, rt.alloc(), &[BEHIND_A_PAD])
 }

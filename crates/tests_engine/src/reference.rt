@@ -1,11 +1,8 @@
 //! The plain book beside an archive: what it makes of the same events, and both as text.
 
-use crate::calls::{answer, told};
 use archive_model::{Command, Descriptor, Reply};
 use control_core::{Event, Request};
 use control_lines::print_reply;
-use disk_core::MemoryDisk;
-use engine_core::Engine;
 use frame_core::limits::LAST_NUMBER;
 use frame_core::{Block, Items, Refusal};
 use plain_book::{Book, Recording};
@@ -75,17 +72,41 @@ impl Story {
     }
 
     /// The session of a number.
-    pub fn session(&self, number: i64) -> Option<&Session> {
+    fn session(&self, number: i64) -> Option<&Session> {
         let index = usize::try_from(number).ok()?;
         self.sessions.as_slice().get(index)
     }
 
+    /// The recording that a session writes, 0 where there is no session.
+    pub fn recording_of(&self, number: i64) -> i64 {
+        match self.session(number) {
+            Some(session) => session.recording,
+            None => 0,
+        }
+    }
+
+    /// Where a recording ends, 0 where there is none.
+    pub fn end_of(&self, recording: i64) -> i64 {
+        match self.book.recording(&recording) {
+            Some(found) => found.recorded_position(),
+            None => 0,
+        }
+    }
+
+    /// Where a session's next block begins.
+    pub fn next_of(&self, number: i64) -> i64 {
+        match self.session(number) {
+            Some(session) if !session.written.is_empty() => session.end,
+            _ => self.end_of(self.recording_of(number)),
+        }
+    }
+
     /// The command that an accepted event is, where it is one: a settle records what its session wrote.
-    pub fn command(&mut self, alloc: Global, event: Event) -> Result<Option<Command>, Refusal> {
+    pub fn command(&mut self, alloc: Global, event: Event) -> Option<Command> {
         match event {
-            Event::Ask(request) => Ok(command_of(request)),
-            Event::Settle { session } => Ok(self.settled(alloc, session)),
-            _ => Ok(None),
+            Event::Ask(request) => command_of(request),
+            Event::Settle { session } => self.settled(alloc, session),
+            _ => None,
         }
     }
 
@@ -107,7 +128,7 @@ impl Story {
     pub fn note(&mut self, alloc: Global, event: Event, end: i64) -> Result<(), Refusal> {
         match event {
             Event::Write { session, block } => self.write(session, block, end),
-            event => match self.command(alloc, event)? {
+            event => match self.command(alloc, event) {
                 Some(command) => self.accept(alloc, &command),
                 None => Ok(()),
             },
@@ -203,92 +224,4 @@ pub fn text_after(
     }
     apply(book, &Command::Restart)?;
     text_of_book(alloc, book)
-}
-
-/// The descriptors and the frames of an archive.
-pub fn text_of(alloc: Global, engine: &mut Engine<MemoryDisk>) -> Result<Vec<u8>, Refusal> {
-    let all = Event::Ask(Request::List {
-        from: 0,
-        count: 1_000,
-    });
-    match answer(alloc, engine, &all)? {
-        Reply::Recordings(descriptors) => text_of_each(alloc, engine, descriptors),
-        _ => Err(Refusal::BadLine),
-    }
-}
-
-fn text_of_each(
-    alloc: Global,
-    engine: &mut Engine<MemoryDisk>,
-    descriptors: Items<Descriptor>,
-) -> Result<Vec<u8>, Refusal> {
-    let mut frames = frames_of_each(alloc, engine, descriptors.as_slice())?;
-    let mut text = print_reply(alloc, &Reply::Recordings(descriptors))?;
-    text.append(&mut frames)?;
-    Ok(text)
-}
-
-fn frames_of_each(
-    alloc: Global,
-    engine: &mut Engine<MemoryDisk>,
-    descriptors: &[Descriptor],
-) -> Result<Vec<u8>, Refusal> {
-    let mut text = Vec::new(alloc);
-    for descriptor in descriptors {
-        let mut frames = frames_of(alloc, engine, descriptor.recording)?;
-        text.append(&mut frames)?;
-    }
-    Ok(text)
-}
-
-/// The number of a replay of a whole recording, which is opened.
-fn opened_replay(
-    alloc: Global,
-    engine: &mut Engine<MemoryDisk>,
-    recording: i64,
-) -> Result<i64, Refusal> {
-    let event = Event::ReplayOpen {
-        recording,
-        position: -1,
-        length: -1,
-    };
-    match answer(alloc, engine, &event)? {
-        Reply::ReplayOpened { replay } => Ok(replay),
-        _ => Err(Refusal::BadLine),
-    }
-}
-
-/// The frames of a whole recording.
-fn frames_of(
-    alloc: Global,
-    engine: &mut Engine<MemoryDisk>,
-    recording: i64,
-) -> Result<Vec<u8>, Refusal> {
-    let replay = opened_replay(alloc, engine, recording)?;
-    let polled = answer(alloc, engine, &Event::ReplayPoll { replay, max: 4_096 });
-    told(alloc, &polled)
-}
-
-/// The frames of a whole recording of an archive, and behind them that a replay of it is done, though it may go on.
-pub fn replayed(
-    alloc: Global,
-    engine: &mut Engine<MemoryDisk>,
-    recording: i64,
-) -> Result<Vec<u8>, Refusal> {
-    let replay = opened_replay(alloc, engine, recording)?;
-    polled_once(alloc, engine, replay)
-}
-
-/// The same of a replay, which is closed then.
-fn polled_once(
-    alloc: Global,
-    engine: &mut Engine<MemoryDisk>,
-    replay: i64,
-) -> Result<Vec<u8>, Refusal> {
-    let polled = answer(alloc, engine, &Event::ReplayPoll { replay, max: 4_096 });
-    let _ = answer(alloc, engine, &Event::ReplayClose { replay });
-    match polled? {
-        Reply::Polled { frames, .. } => print_reply(alloc, &Reply::Polled { frames, next: None }),
-        _ => Err(Refusal::BadLine),
-    }
 }

@@ -1,28 +1,14 @@
 //! The worked scenarios by events: docs/CONTROL.md, "Requests", "Recorder sessions" and "Replays".
 
-use crate::calls::{disk_behind, goes_on, plays};
-use disk_core::{Disk, FileId, MemoryDisk};
-use frame_core::Refusal;
+use crate::scene::{calls_behind, plays};
 use std::alloc::Global;
 use std::process::Abort;
 use std::test::Fail;
 
 /// A new archive with room for 16 entries has to answer as a script says.
 fn played(rt: &impl Abort, alloc: Global, script: &str) -> Result<(), Fail> {
-    plays(rt, alloc, MemoryDisk::new(alloc), 16, script)?;
-    Ok(())
+    plays(rt, alloc, &["make 16: done\n", script])
 }
-
-// Three frames from 0 on are recorded.
-const THREE_HELLOS: &str = "\
-start 0: started 0 0
-write 0 0: written 64
-settle 0: settled 64
-write 0 64: written 128
-settle 0: settled 128
-write 0 128: written 192
-settle 0: settled 192
-";
 
 const BOUNDED_PART: &str = "\
 start 0: started 0 0
@@ -211,19 +197,17 @@ fn purge_of_segments_and_sweeps(rt: HostRuntime) -> Result<(), Fail> {
     played(&rt, rt.alloc(), PURGE)
 }
 
-/// The disk, on which the first byte of the recording's first file is 0, and synced.
-fn damaged(disk: MemoryDisk) -> Result<MemoryDisk, Fail> {
-    let mut disk = disk;
-    let file = FileId::Segment {
-        recording: 0,
-        base: 0,
-    };
-    disk.write_at(file, 0, &[0])?;
-    disk.sync(file)?;
-    Ok(disk)
-}
-
+// The first byte of the recording's file is 0.
 const DAMAGED: &str = "\
+start 0: started 0 0
+write 0 0: written 64
+settle 0: settled 64
+write 0 64: written 128
+settle 0: settled 128
+write 0 128: written 192
+settle 0: settled 192
+turn 0 0 0 0: done
+open: 1
 replay 0 0 -1: replay 0
 verify 0: error 15 Damaged 0 0
 poll 0 1: error 15 Damaged 0 0
@@ -233,17 +217,11 @@ poll 0 1: error 15 Damaged 0 0
 /// A frame whose header is damaged is reported as Damaged with its position, by `verify` and by each poll.
 #[test]
 fn damaged_frame(rt: HostRuntime) -> Result<(), Fail> {
-    let disk = plays(
-        &rt,
-        rt.alloc(),
-        MemoryDisk::new(rt.alloc()),
-        16,
-        THREE_HELLOS,
-    )?;
-    goes_on(&rt, rt.alloc(), damaged(disk)?, DAMAGED)
+    played(&rt, rt.alloc(), DAMAGED)
 }
 
 const FULL: &str = "\
+make 3: done
 start 0: started 0 0
 write 0 0: written 64
 settle 0: settled 64
@@ -252,9 +230,7 @@ settle 0: settled 128
 write 0 128: written 192
 settle 0: error 11 HistoryFull
 stop 0 2000: error 11 HistoryFull
-";
-
-const STILL_FULL: &str = "\
+open: 1
 truncate 0 64: error 11 HistoryFull
 verify 0: verified 2
 ";
@@ -262,11 +238,11 @@ verify 0: verified 2
 /// A history of three entries takes no fourth, but the restart of an opening.
 #[test]
 fn full_history(rt: HostRuntime) -> Result<(), Fail> {
-    let disk = plays(&rt, rt.alloc(), MemoryDisk::new(rt.alloc()), 3, FULL)?;
-    goes_on(&rt, rt.alloc(), disk, STILL_FULL)
+    plays(&rt, rt.alloc(), &[FULL])
 }
 
 const CALLS: &str = "\
+make 16
 start 0
 write 0 0
 settle 0
@@ -279,27 +255,23 @@ close 0
 truncate 0 0
 ";
 
-/// How many calls of the disk a new archive makes for the first of these, behind those of its creation.
-fn calls_for(alloc: Global, most: usize) -> Result<u64, Refusal> {
-    Ok(disk_behind(alloc, CALLS, most)?.calls().wrapping_sub(7))
-}
-
 /// Each call on a new archive makes exactly so many disk calls.
 #[test]
 fn device_calls_are_counted(rt: HostRuntime) -> Result<(), Fail> {
+    // Seven calls make it.
     for (most, calls) in [
-        (1, 4),
-        (2, 5),
-        (3, 10),
-        (4, 10),
-        (5, 11),
-        (6, 15),
-        (7, 15),
-        (8, 16),
-        (9, 16),
-        (10, 20),
+        (1, 11),
+        (2, 12),
+        (3, 17),
+        (4, 17),
+        (5, 18),
+        (6, 22),
+        (7, 22),
+        (8, 23),
+        (9, 23),
+        (10, 27),
     ] {
-        assert!(rt; calls_for(rt.alloc(), most)? == calls, "{most}");
+        assert!(rt; calls_behind(rt.alloc(), CALLS, most)? == calls, "{most}");
     }
     Ok(())
 }

@@ -1,11 +1,8 @@
 //! A script that makes each change of an archive. What it is answered, by how many changes of the disk, and what each
 //! stop and each failed call of the disk leaves of it. docs/STORAGE.md, "Recovery".
 
-use crate::calls::{answered, event_in, made, plays};
-use crate::reference::Story;
 use crate::runs::{Run, survives};
-use disk_core::MemoryDisk;
-use engine_core::Engine;
+use crate::scene::{Scene, plays};
 use frame_core::Refusal;
 use std::alloc::{AllocError, Global};
 use std::process::Abort;
@@ -69,28 +66,20 @@ pub const SCRIPT: [Row; 14] = [
 /// How many changes the script makes.
 pub const CHANGES: u64 = 46;
 
-/// A new archive with room for 64 entries.
-pub fn new_archive(alloc: Global, disk: MemoryDisk) -> Result<Engine<MemoryDisk>, Refusal> {
-    made(alloc, disk, 64)
-}
-
-/// Makes the first calls of the script.
-fn run_first(alloc: Global, engine: &mut Engine<MemoryDisk>, rows: usize) -> Result<(), Refusal> {
-    for (call, _, _, _) in SCRIPT.iter().take(rows) {
-        answered(alloc, engine, call)?;
+/// Makes an archive with room for 64 entries, and the first calls of the script.
+pub fn run_script(alloc: Global, scene: &mut Scene, rows: usize) -> Result<(), Refusal> {
+    scene.make(alloc, 64)?;
+    for row in SCRIPT.iter().take(rows) {
+        scene.answered(alloc, row.0)?;
     }
     Ok(())
 }
 
-/// The disk of a new archive after the first calls of the script.
-pub fn disk_after(alloc: Global, rows: usize) -> Result<MemoryDisk, Refusal> {
-    let mut engine = new_archive(alloc, MemoryDisk::new(alloc))?;
-    run_first(alloc, &mut engine, rows).and(Ok(engine.into_disk()))
-}
-
 /// How many changes of the disk they make.
 fn changes_of(alloc: Global, rows: usize) -> Result<u64, Refusal> {
-    Ok(disk_after(alloc, rows)?.changes().wrapping_sub(6))
+    let mut scene = Scene::new(alloc);
+    run_script(alloc, &mut scene, rows)?;
+    Ok(scene.disk().changes().wrapping_sub(6))
 }
 
 /// Each call of the script makes exactly the number of disk changes in its row.
@@ -109,54 +98,7 @@ fn each_call_makes_so_many_changes(rt: HostRuntime) -> Result<(), Fail> {
 
 /// Adds a call and what it is answered to a text.
 pub fn put(text: &mut String, call: &str, reply: &str) -> Result<(), AllocError> {
-    text.push_str(call)?;
-    text.push_str(": ")?;
-    text.push_str(reply)?;
-    text.push('\n')
-}
-
-/// The script next to a disk of which a call may fail.
-#[derive(Clone, Copy)]
-struct Course {
-    /// The number from here on of the call that fails; 0 once one has broken the archive.
-    fails_at: Option<u64>,
-    /// What the archive knows.
-    place: Option<Place>,
-}
-
-/// What a call is answered that makes so many calls of the disk.
-fn answer_to(reply: &'static str, calls: u64, fails_at: Option<u64>) -> &'static str {
-    match fails_at {
-        Some(0) => "error 16 Broken",
-        Some(at) if at <= calls => "error 17 DeviceFault",
-        _ => reply,
-    }
-}
-
-/// Adds a row to a text: what is expected of it.
-fn follow(text: &mut String, course: Course, row: &Row) -> Result<Course, AllocError> {
-    let (call, reply, changes, place) = *row;
-    // A sweep lists the files first, and breaks nothing.
-    let is_sweep = call == "sweep";
-    let calls = if is_sweep {
-        changes.wrapping_add(1)
-    } else {
-        changes
-    };
-    let told = answer_to(reply, calls, course.fails_at);
-    put(text, call, told)?;
-    Ok(Course {
-        fails_at: match course.fails_at {
-            Some(at) if is_sweep && 0 < at && at <= calls => None,
-            Some(at) => Some(at.saturating_sub(calls)),
-            None => None,
-        },
-        place: if told == reply {
-            Some(place)
-        } else {
-            course.place
-        },
-    })
+    writeln!(text, "{call}: {reply}")
 }
 
 /// The descriptor of recording 0 as a line, where it stopped there.
@@ -194,54 +136,53 @@ purge 0: error 16 Broken
 sweep: error 16 Broken
 ";
 
-/// Adds what is asked after the script.
-fn put_rest(alloc: Global, text: &mut String, course: Course) -> Result<(), AllocError> {
-    if course.fails_at == Some(0) {
-        text.push_str(BROKEN)?;
+/// Adds the script, whose call of the disk of this number fails: whether that breaks the archive, and what it knows then.
+fn put_script(text: &mut String, fails_at: u64) -> Result<(bool, Option<Place>), AllocError> {
+    let mut made = 0u64;
+    let mut is_broken = false;
+    let mut known = None;
+    for (call, reply, changes, place) in &SCRIPT {
+        let before = made;
+        // A sweep lists the files first, and breaks nothing.
+        let is_sweep = *call == "sweep";
+        made = made
+            .wrapping_add(*changes)
+            .wrapping_add(u64::from(is_sweep));
+        if is_broken {
+            put(text, call, "error 16 Broken")?;
+        } else if before < fails_at && fails_at <= made {
+            put(text, call, "error 17 DeviceFault")?;
+            is_broken = !is_sweep;
+        } else {
+            put(text, call, reply)?;
+            known = Some(*place);
+        }
     }
-    let seen = seen(alloc, course.place)?;
-    text.push_str(seen.as_str())
+    Ok((is_broken, known))
 }
 
-/// Adds the script, and what is asked after it.
-fn put_all(alloc: Global, text: &mut String, fails_at: Option<u64>) -> Result<(), AllocError> {
-    let mut course = Course {
-        fails_at,
-        place: None,
-    };
-    for row in &SCRIPT {
-        course = follow(text, course, row)?;
-    }
-    put_rest(alloc, text, course)
+/// The script, and what the archive is asked then, with the answers where the call of the disk of this number fails after those that
+/// make the archive.
+fn expected(alloc: Global, fails_at: u64) -> Result<String, AllocError> {
+    let mut text = String::from_str(alloc, "make 64: done\n")?;
+    let (is_broken, known) = put_script(&mut text, fails_at)?;
+    text.push_str(if is_broken { BROKEN } else { "" })?;
+    text.push_str(seen(alloc, known)?.as_str())?;
+    Ok(text)
 }
 
-/// The script, and what the archive is asked then, with the answers where the call of the disk of this number fails.
-fn expected(alloc: Global, fails_at: Option<u64>) -> Result<String, AllocError> {
-    let mut text = String::new(alloc);
-    put_all(alloc, &mut text, fails_at).and(Ok(text))
+/// A new archive answers so.
+fn is_answered(rt: &impl Abort, alloc: Global, fails_at: u64) -> Result<(), Fail> {
+    let order = format!(in alloc; "fail-at {}: done\n", fails_at.wrapping_add(7))?;
+    let script = expected(alloc, fails_at)?;
+    plays(rt, alloc, &[order.as_str(), script.as_str()])
 }
 
 /// Each call of the script is answered as its row says.
 #[test]
 fn each_call_is_answered(rt: HostRuntime) -> Result<(), Fail> {
-    let script = expected(rt.alloc(), None)?;
-    plays(
-        &rt,
-        rt.alloc(),
-        MemoryDisk::new(rt.alloc()),
-        64,
-        script.as_str(),
-    )?;
-    Ok(())
-}
-
-/// A new archive answers so, whose disk fails at the call of this number after those that make it.
-fn is_answered(rt: &impl Abort, alloc: Global, call: u64) -> Result<(), Fail> {
-    let script = expected(alloc, Some(call))?;
-    let mut disk = MemoryDisk::new(alloc);
-    disk.fail_at(call.wrapping_add(7));
-    plays(rt, alloc, disk, 64, script.as_str())?;
-    Ok(())
+    // So many calls are not made.
+    is_answered(&rt, rt.alloc(), 1_000)
 }
 
 /// The script makes 46 changes and lists the files twice.
@@ -253,53 +194,43 @@ fn a_failed_call_breaks_the_archive_or_nothing(rt: HostRuntime) -> Result<(), Fa
     Ok(())
 }
 
-/// Makes the calls of the script until a call of the disk fails.
-fn play(alloc: Global, run: &mut Run) -> Result<(), Refusal> {
-    for (call, _, _, _) in &SCRIPT {
+/// Obeys an order of the disk, and makes the calls of the script in a new archive until a call of the disk fails.
+pub fn play(alloc: Global, run: &mut Run, order: &str) -> Result<(), Refusal> {
+    run.scene.answered(alloc, order)?;
+    run.scene.make(alloc, 64)?;
+    for row in &SCRIPT {
         if run.has_stopped {
             break;
         }
-        run.make(alloc, event_in(alloc, call)?)?;
+        run.make(alloc, row.0)?;
     }
     Ok(())
 }
 
-/// A run of the script over a new archive on a disk.
-pub fn played(alloc: Global, disk: MemoryDisk) -> Result<Run, Refusal> {
-    let engine = new_archive(alloc, disk)?;
-    let mut run = Run::of(alloc, Story::new(alloc), engine);
-    play(alloc, &mut run).and(Ok(run))
-}
-
-/// Whether a disk that stops after so many changes leaves what it may, and whether it stopped.
-fn survives_stop(alloc: Global, changes: u64) -> Result<(bool, bool), Refusal> {
-    let mut disk = MemoryDisk::new(alloc);
-    disk.stop_after(changes.wrapping_add(6));
-    survives(alloc, played(alloc, disk)?)
+/// Whether a disk that obeys an order leaves what it may, and whether a call of it failed.
+fn survives_order(alloc: Global, order: &str) -> Result<(bool, bool), Refusal> {
+    let mut run = Run::new(alloc);
+    play(alloc, &mut run, order)?;
+    survives(alloc, &mut run)
 }
 
 /// If the disk stops after any change, a crash leaves what the answered calls made, or these and the one in flight.
 #[test]
 fn each_stop_leaves_a_beginning_of_the_script(rt: HostRuntime) -> Result<(), Fail> {
     for changes in 0..=CHANGES {
-        let found = survives_stop(rt.alloc(), changes)?;
+        let order = format!(in rt.alloc(); "stop-after {}", changes.wrapping_add(6))?;
+        let found = survives_order(rt.alloc(), order.as_str())?;
         assert!(rt; found == (true, changes < CHANGES), "{changes}");
     }
     Ok(())
-}
-
-/// The same of a disk whose call of this number fails.
-fn survives_failure(alloc: Global, call: u64) -> Result<(bool, bool), Refusal> {
-    let mut disk = MemoryDisk::new(alloc);
-    disk.fail_at(call.wrapping_add(7));
-    survives(alloc, played(alloc, disk)?)
 }
 
 /// If any disk call fails, a crash leaves what the answered calls made, or these and the one in flight.
 #[test]
 fn each_failed_call_leaves_a_beginning_of_the_script(rt: HostRuntime) -> Result<(), Fail> {
     for call in 1..=49u64 {
-        let found = survives_failure(rt.alloc(), call)?;
+        let order = format!(in rt.alloc(); "fail-at {}", call.wrapping_add(7))?;
+        let found = survives_order(rt.alloc(), order.as_str())?;
         assert!(rt; found == (true, call <= 48), "{call}");
     }
     Ok(())

@@ -1,11 +1,10 @@
 //! How often an archive syncs its disk: docs/STORAGE.md, "Recovery".
 
-use crate::calls::{created, event_of};
-use control_core::Event;
+use crate::calls::{created, event_in};
 use disk_core::{Disk, Fault, FileId, ListFault, MemoryDisk};
 use engine_core::Engine;
 use frame_core::Refusal;
-use std::alloc::Global;
+use std::alloc::{AllocError, Global};
 use std::process::Abort;
 use std::test::Fail;
 
@@ -55,67 +54,53 @@ impl<D: Disk> Disk for Synced<D> {
     }
 }
 
-/// Adds the call of a word, with a position where it has one.
-fn add(alloc: Global, events: &mut Vec<Event>, word: &str, at: i64) -> Result<(), Refusal> {
-    Ok(events.push(event_of(alloc, word, 0, at, 0)?)?)
-}
-
-/// Adds so many blocks of a recording, each settled alone or all together.
-fn add_blocks(
-    alloc: Global,
-    events: &mut Vec<Event>,
-    blocks: i64,
-    together: bool,
-) -> Result<(), Refusal> {
+/// The lines of a recording and so many blocks of it, each settled alone or all together.
+fn script(alloc: Global, blocks: i64, together: bool) -> Result<String, AllocError> {
+    let mut script = String::from_str(alloc, "start 0")?;
     for block in 0..blocks {
-        add(alloc, events, "write", block.wrapping_mul(64))?;
+        write!(script, "\nwrite 0 {}", block.wrapping_mul(64))?;
         if !together || block.wrapping_add(1) == blocks {
-            add(alloc, events, "settle", 0)?;
+            script.push_str("\nsettle 0")?;
         }
     }
+    Ok(script)
+}
+
+/// Makes the calls of a script, whatever they are answered.
+fn run(
+    alloc: Global,
+    engine: &mut Engine<Synced<MemoryDisk>>,
+    script: &str,
+) -> Result<(), Refusal> {
+    let mut events = Vec::new(alloc);
+    for line in script.lines() {
+        events.push(event_in(alloc, line)?)?;
+    }
+    engine.drive(alloc, events.as_slice())?;
     Ok(())
 }
 
-/// A recording and so many blocks of it, each settled alone or all together.
-fn events(alloc: Global, blocks: i64, together: bool) -> Result<Vec<Event>, Refusal> {
-    let mut events = Vec::new(alloc);
-    add(alloc, &mut events, "start", 0)?;
-    add_blocks(alloc, &mut events, blocks, together).and(Ok(events))
-}
-
-/// How many changes were made of the disk of an archive behind these, and how many of them are syncs.
-fn counted_by(
-    alloc: Global,
-    mut engine: Engine<Synced<MemoryDisk>>,
-    events: &[Event],
-) -> Result<(u64, u64), Refusal> {
-    let driven = engine.drive(alloc, events);
-    let Synced { disk, syncs } = engine.into_disk();
-    driven.and(Ok((disk.changes(), syncs)))
-}
-
-/// The same of a new archive.
-fn counted(alloc: Global, events: &[Event]) -> Result<(u64, u64), Refusal> {
+/// How many changes are made of the disk of a new archive by a recording and so many blocks, and how many of them are syncs.
+fn counted(alloc: Global, blocks: i64, together: bool) -> Result<(u64, u64), Refusal> {
+    let script = script(alloc, blocks, together)?;
     let disk = Synced {
         disk: MemoryDisk::new(alloc),
         syncs: 0,
     };
     match created(alloc, disk, 32) {
-        Ok(engine) => counted_by(alloc, engine, events),
+        Ok(mut engine) => {
+            let ran = run(alloc, &mut engine, script.as_str());
+            let Synced { disk, syncs } = engine.into_disk();
+            ran.and(Ok((disk.changes(), syncs)))
+        }
         Err(refused) => Err(refused.refusal),
     }
 }
 
-/// The same of a recording and so many blocks of it.
-fn counted_of(alloc: Global, blocks: i64, together: bool) -> Result<(u64, u64), Refusal> {
-    let events = events(alloc, blocks, together)?;
-    counted(alloc, events.as_slice())
-}
-
 /// The same of so many blocks alone.
 fn of_blocks(alloc: Global, blocks: i64, together: bool) -> Result<(u64, u64), Refusal> {
-    let (before, synced) = counted_of(alloc, 0, together)?;
-    let (changes, syncs) = counted_of(alloc, blocks, together)?;
+    let (before, synced) = counted(alloc, 0, together)?;
+    let (changes, syncs) = counted(alloc, blocks, together)?;
     Ok((changes.wrapping_sub(before), syncs.wrapping_sub(synced)))
 }
 

@@ -1,0 +1,340 @@
+//! A disk and the archive that is open on it, in a script: calls as `calls` has them, and what is done to the disk. docs/STORAGE.md.
+
+use crate::calls::{answer, event_in, number, refused, told};
+use archive_model::Reply;
+use catalogue_log::open;
+use control_core::Event;
+use disk_core::{Disk, FileId, MemoryDisk};
+use engine_core::{Engine, OpenRefusal, compact};
+use frame_core::Refusal;
+use std::alloc::Global;
+use std::process::Abort;
+use std::test::Fail;
+
+/// A disk, or the archive that is open on it.
+#[derive(Drop)]
+pub struct Scene {
+    disk: MemoryDisk,
+    archive: Option<Engine<MemoryDisk>>,
+}
+
+impl Scene {
+    /// A new disk.
+    pub fn new(alloc: Global) -> Scene {
+        Scene::of(MemoryDisk::new(alloc))
+    }
+
+    /// A disk.
+    pub fn of(disk: MemoryDisk) -> Scene {
+        Scene {
+            disk,
+            archive: None,
+        }
+    }
+
+    /// Takes a new disk.
+    pub fn clear(&mut self, alloc: Global) {
+        self.close();
+        self.disk = MemoryDisk::new(alloc);
+    }
+
+    /// Closes the archive.
+    fn close(&mut self) {
+        if let Some(engine) = self.archive.take() {
+            self.disk = engine.into_disk();
+        }
+    }
+
+    /// The disk of the archive, which is closed.
+    fn taken(&mut self, alloc: Global) -> MemoryDisk {
+        self.close();
+        std::mem::replace(&mut self.disk, MemoryDisk::new(alloc))
+    }
+
+    /// The disk, once the archive is closed.
+    pub fn disk(&mut self) -> &mut MemoryDisk {
+        self.close();
+        &mut self.disk
+    }
+
+    /// Makes a new archive with room for so many entries.
+    pub fn make(&mut self, alloc: Global, limit: u32) -> Result<(), Refusal> {
+        match Engine::create(alloc, self.taken(alloc), limit) {
+            Ok(engine) => {
+                self.archive = Some(engine);
+                Ok(())
+            }
+            Err(OpenRefusal { refusal, disk }) => {
+                self.disk = disk;
+                Err(refusal)
+            }
+        }
+    }
+
+    /// Opens the archive of the disk, and answers how many recordings that stopped.
+    pub fn open(&mut self, alloc: Global) -> Result<i64, Refusal> {
+        match Engine::open(alloc, self.taken(alloc)) {
+            Ok((engine, stopped)) => {
+                self.archive = Some(engine);
+                Ok(stopped)
+            }
+            Err(OpenRefusal { refusal, disk }) => {
+                self.disk = disk;
+                Err(refusal)
+            }
+        }
+    }
+
+    /// Leaves of the disk what a crash does by a choice.
+    pub fn crash(&mut self, choice: u8) -> Result<(), Refusal> {
+        self.close();
+        self.disk = self.disk.crash(&[choice])?;
+        Ok(())
+    }
+
+    /// The archive, which has to be open.
+    pub fn archive(&mut self) -> Result<&mut Engine<MemoryDisk>, Refusal> {
+        match &mut self.archive {
+            Some(engine) => Ok(engine),
+            None => Err(Refusal::BadLine),
+        }
+    }
+
+    /// What the archive answers to a call.
+    pub fn step(&mut self, alloc: Global, event: &Event) -> Result<Reply, Refusal> {
+        answer(alloc, self.archive()?, event)
+    }
+
+    /// What is answered to a call of a line, as lines.
+    pub fn call(&mut self, alloc: Global, line: &str) -> Result<Vec<u8>, Refusal> {
+        let event = event_in(alloc, line)?;
+        told(alloc, &self.step(alloc, &event)?)
+    }
+
+    /// Makes an archive or a crash, compacts, or has a call of the disk fail or a file of it damaged.
+    fn order(&mut self, alloc: Global, word: &str, rest: &str) -> Result<(), Refusal> {
+        let number = rest.parse::<u64>().unwrap_or(0);
+        match word {
+            "make" => return self.make(alloc, u32::try_from(number).unwrap_or(0)),
+            "crash" => return self.crash(u8::try_from(number).unwrap_or(0)),
+            "compact" => return compacts(alloc, self.disk()),
+            "stop-after" => self.disk().stop_after(number),
+            "fail-at" => self.disk().fail_at(number),
+            _ => return damage(self.disk(), word, rest),
+        }
+        Ok(())
+    }
+
+    /// Makes a new archive with room for so many entries, or opens the one of the disk: how many recordings that stopped, -1 of a new one.
+    fn begin(&mut self, alloc: Global, limit: u32) -> Result<i64, Refusal> {
+        match Engine::create_or_open(alloc, self.taken(alloc), limit) {
+            Ok((engine, stopped)) => {
+                self.archive = Some(engine);
+                Ok(stopped.unwrap_or(-1))
+            }
+            Err(OpenRefusal { refusal, disk }) => {
+                self.disk = disk;
+                Err(refusal)
+            }
+        }
+    }
+
+    /// How many recordings an opening stops, how many calls of the disk there were and how many of them change it; how many entries of
+    /// the history count, and 1 of an archive that is broken.
+    fn count(&mut self, alloc: Global, word: &str) -> Result<i64, Refusal> {
+        let count = match word {
+            "open" => return self.open(alloc),
+            "begin" => return self.begin(alloc, 100),
+            "calls" => self.disk().calls(),
+            "changes" => self.disk().changes(),
+            "entries" => self.archive()?.desk().counted(),
+            _ => u64::from(self.archive()?.desk().is_broken()),
+        };
+        Ok(i64::try_from(count).unwrap_or(-1))
+    }
+
+    /// What is answered to a line: a call of the archive, an order or a count. `calls`, `changes` and orders close the archive.
+    fn reply(&mut self, alloc: Global, line: &str) -> Result<Vec<u8>, Refusal> {
+        let (word, rest) = line.split_once(' ').unwrap_or((line, ""));
+        match word {
+            "make" | "crash" | "compact" | "stop-after" | "fail-at" | "cut" | "turn" | "remove" => {
+                self.order(alloc, word, rest)?;
+                Ok(Vec::from_slice(alloc, b"done\n")?)
+            }
+            "open" | "begin" | "calls" | "changes" | "entries" | "broken" => {
+                let count = self.count(alloc, word)?;
+                Ok(format!(in alloc; "{count}\n")?.into_bytes())
+            }
+            "catalogue" => {
+                let (epoch, counted) = catalogue_of(alloc, self.disk())?;
+                Ok(format!(in alloc; "{epoch} {counted}\n")?.into_bytes())
+            }
+            _ => self.call(alloc, line),
+        }
+    }
+
+    /// The same, of a refusal too.
+    pub fn answered(&mut self, alloc: Global, line: &str) -> Result<Vec<u8>, Refusal> {
+        match self.reply(alloc, line) {
+            Ok(text) => Ok(text),
+            Err(refusal) => refused(alloc, &refusal),
+        }
+    }
+
+    /// Obeys the first lines of a script, whatever is answered.
+    pub fn run(&mut self, alloc: Global, script: &str, most: usize) -> Result<(), Refusal> {
+        let mut left = most;
+        for line in script.lines() {
+            if left == 0 {
+                break;
+            }
+            left = left.wrapping_sub(1);
+            self.answered(alloc, line)?;
+        }
+        Ok(())
+    }
+
+    /// Adds a line to a transcript, and behind a colon what is answered.
+    fn put(&mut self, alloc: Global, text: &mut Vec<u8>, line: &str) -> Result<(), Refusal> {
+        text.extend_from_slice(line.as_bytes())?;
+        text.extend_from_slice(b": ")?;
+        let mut lines = self.answered(alloc, line)?;
+        Ok(text.append(&mut lines)?)
+    }
+
+    /// The transcript of the lines of a script, which stand each before a colon.
+    pub fn transcript(&mut self, alloc: Global, script: &str) -> Result<Vec<u8>, Refusal> {
+        let mut text = Vec::new(alloc);
+        for line in script.lines() {
+            if let Some((line, _)) = line.split_once(": ") {
+                self.put(alloc, &mut text, line)?;
+            }
+        }
+        Ok(text)
+    }
+
+    /// Answers as a script says; NoMemory if one of its lines was refused.
+    pub fn obey(&mut self, alloc: Global, script: &str) -> Result<(), Refusal> {
+        if self.transcript(alloc, script)?.as_slice() == script.as_bytes() {
+            Ok(())
+        } else {
+            Err(Refusal::NoMemory)
+        }
+    }
+
+    /// The frames of a whole recording, as far as they are read.
+    fn frames(&mut self, alloc: Global, recording: i64) -> Result<Vec<u8>, Refusal> {
+        let replay = self.archive()?.desk().next_replay();
+        self.call(
+            alloc,
+            format!(in alloc; "replay {recording} -1 -1")?.as_str(),
+        )?;
+        self.answered(alloc, format!(in alloc; "poll {replay} 4096")?.as_str())
+    }
+
+    /// The same of a replay that is closed then.
+    pub fn replayed(&mut self, alloc: Global, recording: i64) -> Result<Vec<u8>, Refusal> {
+        let replay = self.archive()?.desk().next_replay();
+        let text = self.frames(alloc, recording);
+        self.run(alloc, format!(in alloc; "close {replay}")?.as_str(), 1)?;
+        text
+    }
+
+    /// The descriptors and the frames of the archive.
+    fn text(&mut self, alloc: Global) -> Result<Vec<u8>, Refusal> {
+        let mut text = self.call(alloc, "list 0 1000")?;
+        for recording in 0..self.archive()?.desk().next_recording() {
+            if self.archive()?.desk().recording(&recording).is_some() {
+                text.append(&mut self.frames(alloc, recording)?)?;
+            }
+        }
+        Ok(text)
+    }
+
+    /// Opens the archive of the disk: its descriptors and frames.
+    pub fn found(&mut self, alloc: Global) -> Result<Vec<u8>, Refusal> {
+        self.open(alloc)?;
+        self.text(alloc)
+    }
+}
+
+/// Compacts the archive of a disk.
+pub fn compacts(alloc: Global, disk: &mut MemoryDisk) -> Result<(), Refusal> {
+    compact(alloc, disk)
+}
+
+/// The epoch of the catalogue of a disk, and how many of its entries count.
+pub fn catalogue_of(alloc: Global, disk: &mut MemoryDisk) -> Result<(u64, usize), Refusal> {
+    let (log, _) = open(alloc, disk)?;
+    Ok((log.epoch(), log.counted()))
+}
+
+/// Cuts a segment file of a recording and a base to so many bytes, changes its byte at an offset or removes it, and syncs it.
+fn damage(disk: &mut MemoryDisk, how: &str, words: &str) -> Result<(), Refusal> {
+    let mut words = words.split(' ');
+    let recording = number(words.next());
+    let base = number(words.next());
+    let at = u64::try_from(number(words.next())).unwrap_or(0);
+    let file = FileId::Segment { recording, base };
+    match how {
+        "cut" => disk.cut(file, at)?,
+        "turn" => disk.write_at(file, at, &[u8::try_from(number(words.next())).unwrap_or(0)])?,
+        "remove" => disk.remove(file)?,
+        _ => return Err(Refusal::BadLine),
+    }
+    Ok(disk.sync(file)?)
+}
+
+/// What a crash leaves of the archive of a disk, as text.
+fn text_left(alloc: Global, disk: &MemoryDisk, choice: u8) -> Result<Vec<u8>, Refusal> {
+    let mut scene = Scene::of(disk.crash(&[choice])?);
+    scene.found(alloc)
+}
+
+/// Whether each of three crashes leaves one of two texts.
+pub fn leaves(
+    alloc: Global,
+    disk: &MemoryDisk,
+    before: &[u8],
+    after: &[u8],
+) -> Result<bool, Refusal> {
+    for choice in [0, 1, 255] {
+        let text = text_left(alloc, disk, choice)?;
+        if text.as_slice() != before && text.as_slice() != after {
+            return Ok(false);
+        }
+    }
+    Ok(true)
+}
+
+/// A scene has to answer as a script says.
+pub fn answers(
+    rt: &impl Abort,
+    alloc: Global,
+    scene: &mut Scene,
+    script: &str,
+) -> Result<(), Fail> {
+    let text = scene.transcript(alloc, script)?;
+    assert!(rt;
+        text.as_slice() == script.as_bytes(),
+        "{:?}",
+        std::str::from_utf8(text.as_slice())
+    );
+    Ok(())
+}
+
+/// A new disk has to answer as the parts of a script say.
+pub fn plays(rt: &impl Abort, alloc: Global, parts: &[&str]) -> Result<(), Fail> {
+    let mut scene = Scene::new(alloc);
+    for part in parts {
+        answers(rt, alloc, &mut scene, part)?;
+    }
+    Ok(())
+}
+
+/// How many calls a new disk is asked for so many lines of a script behind its first one.
+pub fn calls_behind(alloc: Global, script: &str, most: usize) -> Result<u64, Refusal> {
+    let mut scene = Scene::new(alloc);
+    let ran = scene.run(alloc, script, most.wrapping_add(1));
+    ran.and(Ok(scene.disk().calls()))
+}
