@@ -1,7 +1,7 @@
 //! Checkpoints of an archive with active recordings, unsettled blocks and an open replay: each change of the disk
 //! stopped, each call failed, and what is refused. docs/STORAGE.md, "Checkpoints".
 
-use crate::refused::is_answered;
+use crate::refused::{Trial, is_answered, refused_memory};
 use crate::scene::{Scene, catalogue_of, plays};
 use frame_core::Refusal;
 use std::alloc::Global;
@@ -194,7 +194,7 @@ fn a_full_history_goes_on(rt: HostRuntime) -> Result<(), Fail> {
 
 /// A checkpoint, made again where memory is refused: nothing has changed then. Where what comes before it finds no memory, all
 /// is done again.
-fn checkpoints(rt: &impl Abort, alloc: Global, scene: &mut Scene) -> Result<(), Refusal> {
+pub fn checkpoints(rt: &impl Abort, alloc: Global, scene: &mut Scene) -> Result<(), Refusal> {
     scene.obey(alloc, BEFORE)?;
     assert!(rt; scene.archive()?.desk().counted() == 4);
     if is_answered(rt, alloc, scene, "checkpoint", "checkpointed")? {
@@ -211,10 +211,5 @@ fn checkpoints(rt: &impl Abort, alloc: Global, scene: &mut Scene) -> Result<(), 
 /// A checkpoint that is refused memory changes nothing, and succeeds if it is tried again.
 #[test]
 fn refused_memory_of_a_checkpoint(rt: HostRuntime) -> Result<(), Fail> {
-    let mut scene = Scene::new(rt.alloc());
-    if checkpoints(&rt, rt.alloc(), &mut scene).is_err() {
-        scene.clear(rt.alloc());
-        checkpoints(&rt, rt.alloc(), &mut scene)?;
-    }
-    Ok(())
+    refused_memory(&rt, rt.alloc(), Trial::Checkpoint)
 }

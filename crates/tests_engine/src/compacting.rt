@@ -8,6 +8,7 @@ use crate::script::play;
 use disk_core::MemoryDisk;
 use frame_core::Refusal;
 use std::alloc::Global;
+use std::process::Abort;
 use std::test::Fail;
 
 /// A compaction of the catalogue of an epoch, on a disk that stops after so many changes, and the choice of a crash then.
@@ -48,11 +49,25 @@ fn is_found(alloc: Global, scene: &mut Scene, epoch: u64, text: &[u8]) -> Result
     Ok(catalogue_of(alloc, scene.disk())?.0 == epoch && scene.found(alloc)?.as_slice() == text)
 }
 
-/// Whether a stop leaves the text, in the bank that it has to.
+/// Whether a stop leaves the text of a disk to a scene, in the bank that it has to.
+fn leaves_to(
+    alloc: Global,
+    scene: &mut Scene,
+    disk: &MemoryDisk,
+    stop: Stop,
+    text: &[u8],
+) -> Result<bool, Refusal> {
+    scene.take_crash(disk, 0)?;
+    let is_right = stops(alloc, scene, stop)?;
+    Ok(is_right && is_found(alloc, scene, stop.left(), text)?)
+}
+
+/// The same to a new scene.
 fn leaves(alloc: Global, disk: &MemoryDisk, stop: Stop, text: &[u8]) -> Result<bool, Refusal> {
-    let mut scene = Scene::of(disk.crash(&[0])?);
-    let is_right = stops(alloc, &mut scene, stop)?;
-    Ok(is_right && is_found(alloc, &mut scene, stop.left(), text)?)
+    let mut scene = Scene::new(alloc);
+    let leaves = leaves_to(alloc, &mut scene, disk, stop, text);
+    drop(scene);
+    leaves
 }
 
 const CHOICES: [u8; 3] = [0, 1, 255];
@@ -73,21 +88,35 @@ fn all_leave(alloc: Global, disk: &MemoryDisk, epoch: u64, text: &[u8]) -> Resul
     Ok(all)
 }
 
-/// Whether a stop leaves it, and each stop of another compaction after it.
-fn both_leave(alloc: Global, disk: &MemoryDisk, stop: Stop, text: &[u8]) -> Result<bool, Refusal> {
-    let mut scene = Scene::of(disk.crash(&[0])?);
-    let is_right = stops(alloc, &mut scene, stop)?;
+/// Whether a stop leaves it to a scene, and so does each stop of another compaction after it.
+fn both_leave_to(
+    alloc: Global,
+    scene: &mut Scene,
+    disk: &MemoryDisk,
+    stop: Stop,
+    text: &[u8],
+) -> Result<bool, Refusal> {
+    scene.take_crash(disk, 0)?;
+    let is_right = stops(alloc, scene, stop)?;
     let all_leave = all_leave(alloc, scene.disk(), stop.left(), text)?;
-    Ok(is_right && all_leave && is_found(alloc, &mut scene, stop.left(), text)?)
+    Ok(is_right && all_leave && is_found(alloc, scene, stop.left(), text)?)
 }
 
-/// After a stop at any change of two compactions in a row a crash leaves the archive's state, in the bank whose gate was
-/// opened last.
-#[test]
-fn each_stop_of_two_compactions_leaves_the_state(rt: HostRuntime) -> Result<(), Fail> {
-    let mut run = Run::new(rt.alloc());
-    play(rt.alloc(), &mut run, "changes")?;
-    let text = text_of_book(rt.alloc(), &run.story.book)?;
+/// The same to a new scene.
+fn both_leave(alloc: Global, disk: &MemoryDisk, stop: Stop, text: &[u8]) -> Result<bool, Refusal> {
+    let mut scene = Scene::new(alloc);
+    let leave = both_leave_to(alloc, &mut scene, disk, stop, text);
+    drop(scene);
+    leave
+}
+
+/// Each two stops leave it.
+fn each_two_leave(
+    rt: &impl Abort,
+    alloc: Global,
+    disk: &MemoryDisk,
+    text: &[u8],
+) -> Result<(), Fail> {
     for changes in 0..=7u64 {
         for choice in CHOICES {
             let stop = Stop {
@@ -95,11 +124,25 @@ fn each_stop_of_two_compactions_leaves_the_state(rt: HostRuntime) -> Result<(), 
                 changes,
                 choice,
             };
-            assert!(rt;
-                both_leave(rt.alloc(), run.scene.disk(), stop, text.as_slice())?,
-                "{changes} {choice}"
-            );
+            assert!(rt; both_leave(alloc, disk, stop, text)?, "{changes} {choice}");
         }
     }
     Ok(())
+}
+
+/// Plays the script, of whose text that is so.
+fn plays(rt: &impl Abort, alloc: Global, run: &mut Run) -> Result<(), Fail> {
+    play(alloc, run, "changes")?;
+    let text = text_of_book(alloc, &run.story.book)?;
+    each_two_leave(rt, alloc, run.scene.disk(), text.as_slice())
+}
+
+/// After a stop at any change of two compactions in a row a crash leaves the archive's state, in the bank whose gate was
+/// opened last.
+#[test]
+fn each_stop_of_two_compactions_leaves_the_state(rt: HostRuntime) -> Result<(), Fail> {
+    let mut run = Run::new(rt.alloc());
+    let played = plays(&rt, rt.alloc(), &mut run);
+    drop(run);
+    played
 }

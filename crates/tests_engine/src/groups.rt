@@ -1,6 +1,6 @@
 //! What several recorder sessions wrote, settled together: docs/CONTROL.md, "Recorder sessions".
 
-use crate::refused::is_answered;
+use crate::refused::{Trial, is_answered, refused_memory};
 use crate::scene::{Scene, leaves, plays};
 use frame_core::Refusal;
 use std::alloc::{AllocError, Global};
@@ -47,11 +47,18 @@ fn settled(alloc: Global, scene: &mut Scene, begin: &str, group: &str) -> Result
     scene.answered(alloc, group)
 }
 
-/// What is found of an archive that settled such a group.
+/// What is found of a new archive that settled such a group.
+fn found_in(alloc: Global, scene: &mut Scene, group: &str) -> Result<Vec<u8>, Refusal> {
+    settled(alloc, scene, "make 16", group)?;
+    scene.found(alloc)
+}
+
+/// The same on a new disk.
 fn found(alloc: Global, group: &str) -> Result<Vec<u8>, Refusal> {
     let mut scene = Scene::new(alloc);
-    settled(alloc, &mut scene, "make 16", group)?;
-    scene.found(alloc)
+    let text = found_in(alloc, &mut scene, group);
+    drop(scene);
+    text
 }
 
 /// Whether a disk of which no call fails leaves all of the group, and another one all of it or nothing, and then the archive is broken.
@@ -67,16 +74,32 @@ fn is_left(alloc: Global, scene: &mut Scene, has_failed: bool) -> Result<bool, R
     Ok(is_left && is_broken == has_failed)
 }
 
+/// Whether an answer is a fault of the disk, or what the group is answered.
+fn is_fault(text: &[u8]) -> Option<bool> {
+    if text == b"error 17 DeviceFault\n".as_slice() {
+        Some(true)
+    } else if text == b"settled-all 64 0 - 128\n".as_slice() {
+        Some(false)
+    } else {
+        None
+    }
+}
+
 /// Whether that is so of a disk that obeys an order, and whether a call of it failed.
+fn survives_in(alloc: Global, scene: &mut Scene, begin: &str) -> Result<(bool, bool), Refusal> {
+    let text = settled(alloc, scene, begin, "settle-all 0 2 9 1")?;
+    match is_fault(text.as_slice()) {
+        Some(has_failed) => Ok((is_left(alloc, scene, has_failed)?, has_failed)),
+        None => Ok((false, false)),
+    }
+}
+
+/// The same of a new disk.
 fn survives(alloc: Global, begin: &str) -> Result<(bool, bool), Refusal> {
     let mut scene = Scene::new(alloc);
-    let text = settled(alloc, &mut scene, begin, "settle-all 0 2 9 1")?;
-    let has_failed = text.as_slice() == b"error 17 DeviceFault\n".as_slice();
-    let is_told = has_failed || text.as_slice() == b"settled-all 64 0 - 128\n".as_slice();
-    Ok((
-        is_told && is_left(alloc, &mut scene, has_failed)?,
-        has_failed,
-    ))
+    let survives = survives_in(alloc, &mut scene, begin);
+    drop(scene);
+    survives
 }
 
 /// If the disk stops after any change of a group settle, a crash leaves all of the group settled or nothing of it.
@@ -167,7 +190,7 @@ fn numbers_stand_once_and_are_64_at_most(rt: HostRuntime) -> Result<(), Fail> {
 }
 
 /// Settles a group, once more if memory is refused: nothing had changed then. A disk that finds no memory has a fault.
-fn settles_again(rt: &impl Abort, alloc: Global, scene: &mut Scene) -> Result<(), Refusal> {
+pub fn settles_again(rt: &impl Abort, alloc: Global, scene: &mut Scene) -> Result<(), Refusal> {
     scene.obey(alloc, "make 16: done\n")?;
     scene.obey(alloc, WRITTEN)?;
     let reply = "settled-all 64 0 - 128";
@@ -177,10 +200,5 @@ fn settles_again(rt: &impl Abort, alloc: Global, scene: &mut Scene) -> Result<()
 /// Where what comes before the group finds no memory, all is done again.
 #[test]
 fn refused_memory_of_a_group(rt: HostRuntime) -> Result<(), Fail> {
-    let mut scene = Scene::new(rt.alloc());
-    if settles_again(&rt, rt.alloc(), &mut scene).is_err() {
-        scene.clear(rt.alloc());
-        settles_again(&rt, rt.alloc(), &mut scene)?;
-    }
-    Ok(())
+    refused_memory(&rt, rt.alloc(), Trial::Group)
 }

@@ -5,6 +5,7 @@ use engine_core::Poll;
 use frame_core::{FrameRef, Refusal};
 use replay_core::FrameTaker;
 use std::alloc::{AllocError, Global};
+use std::process::Abort;
 use std::test::Fail;
 
 /// Where frames begin that carry `hello`, so many at most: then there is no memory.
@@ -70,11 +71,20 @@ pub fn handed(
     Ok(format!(in alloc; "{next:?} {:?}", taker.found.as_slice())?)
 }
 
-/// A replay whose taker has no memory stays where it was, and what is handed on then is what a poll gives.
-#[test]
-fn frames_are_handed_on(rt: HostRuntime) -> Result<(), Fail> {
-    let mut scene = Scene::new(rt.alloc());
-    scene.run(rt.alloc(), REPLAYED, 8)?;
+/// Whether that is so.
+fn is_handed(
+    alloc: Global,
+    scene: &mut Scene,
+    poll: &Poll,
+    most: usize,
+    outcome: &str,
+) -> Result<bool, Refusal> {
+    Ok(handed(alloc, scene, poll, most)?.as_str() == outcome)
+}
+
+/// Polls of an archive that has three frames are answered so, and hand on these.
+fn polls(rt: &impl Abort, alloc: Global, scene: &mut Scene) -> Result<(), Fail> {
+    scene.run(alloc, REPLAYED, 8)?;
     for (replay, max, limit, most, outcome) in [
         (7, 10, None, 9, "Err(UnknownReplay) []"),
         (0, 0, None, 9, "Err(BadParameter) []"),
@@ -87,8 +97,19 @@ fn frames_are_handed_on(rt: HostRuntime) -> Result<(), Fail> {
         (0, 10, Some(0), 9, "Ok(None) []"),
     ] {
         let poll = Poll { replay, max, limit };
-        let text = handed(rt.alloc(), &mut scene, &poll, most)?;
-        assert!(rt; text.as_str() == outcome, "{poll:?} {most}");
+        assert!(rt;
+            is_handed(alloc, scene, &poll, most, outcome)?,
+            "{poll:?} {most}"
+        );
     }
     Ok(())
+}
+
+/// A replay whose taker has no memory stays where it was, and what is handed on then is what a poll gives.
+#[test]
+fn frames_are_handed_on(rt: HostRuntime) -> Result<(), Fail> {
+    let mut scene = Scene::new(rt.alloc());
+    let polled = polls(&rt, rt.alloc(), &mut scene);
+    drop(scene);
+    polled
 }

@@ -46,14 +46,26 @@ settle 0
 replay 0 0 -1
 ";
 
-/// The frames that the replay of an archive gives, which recorded `hello` at 0 and 64.
-fn recorded(alloc: Global) -> Result<Vec<PolledFrame>, Refusal> {
-    let mut scene = Scene::new(alloc);
-    scene.run(alloc, RECORDED, 7)?;
-    match scene.step(alloc, &Event::ReplayPoll { replay: 0, max: 10 })? {
+/// The frames of a poll.
+fn frames_of(reply: Reply) -> Result<Vec<PolledFrame>, Refusal> {
+    match reply {
         Reply::Polled { frames, .. } => Ok(frames.into_vec()),
         _ => Err(Refusal::BadLine),
     }
+}
+
+/// The frames that the replay of an archive gives, which recorded `hello` at 0 and 64.
+fn polled(alloc: Global, scene: &mut Scene) -> Result<Vec<PolledFrame>, Refusal> {
+    scene.run(alloc, RECORDED, 7)?;
+    frames_of(scene.step(alloc, &Event::ReplayPoll { replay: 0, max: 10 })?)
+}
+
+/// The same of a new disk.
+fn recorded(alloc: Global) -> Result<Vec<PolledFrame>, Refusal> {
+    let mut scene = Scene::new(alloc);
+    let frames = polled(alloc, &mut scene);
+    drop(scene);
+    frames
 }
 
 /// The live frames at 64 and 128, which an image gets.

@@ -22,20 +22,25 @@ const READINGS: [(&str, &str, u64); 6] = [
     ("close 0", "closed", 0),
 ];
 
-/// The readings and their answers: the one that makes the call of this number is answered by a fault, and is made again.
-fn expected(alloc: Global, fails_at: u64) -> Result<String, AllocError> {
-    let mut text = String::from_str(alloc, "open: 0\n")?;
+/// Adds the readings and their answers: the one that makes the call of this number is answered by a fault, and is made again.
+fn put_readings(text: &mut String, fails_at: u64) -> Result<(), AllocError> {
     let mut made = 0u64;
     for (call, reply, calls) in READINGS {
         let next = made.wrapping_add(calls);
         if made < fails_at && fails_at <= next {
-            put(&mut text, call, "error 17 DeviceFault")?;
+            put(text, call, "error 17 DeviceFault")?;
         }
-        put(&mut text, call, reply)?;
+        put(text, call, reply)?;
         made = next;
     }
-    text.push_str("changes: 55\n")?;
-    Ok(text)
+    text.push_str("changes: 55\n")
+}
+
+/// An opening and the readings, as a script.
+fn expected(alloc: Global, fails_at: u64) -> Result<String, AllocError> {
+    let mut text = String::from_str(alloc, "open: 0\n")?;
+    let put = put_readings(&mut text, fails_at);
+    put.and(Ok(text))
 }
 
 /// Each reading over the script's archive is answered so, and by no change of the disk but the three syncs of an opening.
@@ -52,18 +57,40 @@ fn are_answered(
     answers(rt, alloc, scene, expected(alloc, fails_at)?.as_str())
 }
 
+/// That is so whichever call of the disk fails.
+fn all_are_answered(rt: &impl Abort, alloc: Global, scene: &mut Scene) -> Result<(), Fail> {
+    for fails_at in 1..=6u64 {
+        are_answered(rt, alloc, scene, fails_at)?;
+    }
+    Ok(())
+}
+
 /// If a disk call of a reading fails, that reading is answered DeviceFault, the archive is not broken, and the next try
 /// answers as usual.
 #[test]
 fn a_failed_reading_breaks_nothing(rt: HostRuntime) -> Result<(), Fail> {
     let mut scene = Scene::new(rt.alloc());
-    for fails_at in 1..=6u64 {
-        are_answered(&rt, rt.alloc(), &mut scene, fails_at)?;
-    }
-    Ok(())
+    let answered = all_are_answered(&rt, rt.alloc(), &mut scene);
+    drop(scene);
+    answered
 }
 
 /// Whether the call of this number fails an opening after so many rows of the script, and whether another one finds a text then.
+fn found_again_in(
+    alloc: Global,
+    scene: &mut Scene,
+    rows: usize,
+    call: u64,
+    text: &[u8],
+) -> Result<(bool, bool), Refusal> {
+    run_script(alloc, scene, rows)?;
+    scene.disk().fail_at(call);
+    let has_failed = scene.open(alloc) == Err(Refusal::DeviceFault);
+    let is_found = has_failed && scene.found(alloc)?.as_slice() == text;
+    Ok((has_failed, is_found))
+}
+
+/// The same of a new disk.
 fn found_again(
     alloc: Global,
     rows: usize,
@@ -71,18 +98,23 @@ fn found_again(
     text: &[u8],
 ) -> Result<(bool, bool), Refusal> {
     let mut scene = Scene::new(alloc);
-    run_script(alloc, &mut scene, rows)?;
-    scene.disk().fail_at(call);
-    let has_failed = scene.open(alloc) == Err(Refusal::DeviceFault);
-    let is_found = has_failed && scene.found(alloc)?.as_slice() == text;
-    Ok((has_failed, is_found))
+    let found = found_again_in(alloc, &mut scene, rows, call, text);
+    drop(scene);
+    found
 }
 
 /// What an opening finds after so many rows of the script.
+fn found_in(alloc: Global, scene: &mut Scene, rows: usize) -> Result<Vec<u8>, Refusal> {
+    run_script(alloc, scene, rows)?;
+    scene.found(alloc)
+}
+
+/// The same of a new disk.
 fn found(alloc: Global, rows: usize) -> Result<Vec<u8>, Refusal> {
     let mut scene = Scene::new(alloc);
-    run_script(alloc, &mut scene, rows)?;
-    scene.found(alloc)
+    let text = found_in(alloc, &mut scene, rows);
+    drop(scene);
+    text
 }
 
 /// Whether each of so many calls fails an opening after so many rows of the script, and no further one; and whether another

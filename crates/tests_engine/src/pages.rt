@@ -201,8 +201,9 @@ fn truncated(
 #[test]
 fn no_page_outlives_a_truncation(rt: HostRuntime) -> Result<(), Fail> {
     let mut scene = Scene::new(rt.alloc());
-    let found = truncated(rt.alloc(), &mut scene)?;
-    assert!(rt; found == ((128, 0), (1, 127)));
+    let found = truncated(rt.alloc(), &mut scene);
+    drop(scene);
+    assert!(rt; found? == ((128, 0), (1, 127)));
     Ok(())
 }
 

@@ -158,8 +158,10 @@ fn compactions_survived(alloc: Global, run: &mut Run) -> Result<bool, Refusal> {
 /// Whether a run whose disk stops after so many changes leaves what it may, and whether it stopped.
 fn survived(alloc: Global, changes: u64) -> Result<(bool, bool), Refusal> {
     let mut run = Run::new(alloc);
-    play(alloc, &mut run, changes)?;
-    survives(alloc, &mut run)
+    let played = play(alloc, &mut run, changes);
+    let survived = survives(alloc, &mut run);
+    drop(run);
+    played.and(survived)
 }
 
 // The lines that commands are answered by, and of a sweep that removes a file.
@@ -181,13 +183,20 @@ fn has_all(rt: &impl Abort, text: &str) {
     }
 }
 
+/// Plays the calls: each of the lines is among the answers.
+fn answers_all(rt: &impl Abort, alloc: Global, run: &mut Run) -> Result<(), Fail> {
+    play(alloc, run, 1_000)?;
+    has_all(rt, std::str::from_utf8(run.answers.as_slice())?);
+    Ok(())
+}
+
 /// Among the 200 random calls each command is accepted at least once, so the other tests of this file ask of each.
 #[test]
 fn each_command_comes_by_chance(rt: HostRuntime) -> Result<(), Fail> {
     let mut run = Run::new(rt.alloc());
-    play(rt.alloc(), &mut run, 1_000)?;
-    has_all(&rt, std::str::from_utf8(run.answers.as_slice())?);
-    Ok(())
+    let answered = answers_all(&rt, rt.alloc(), &mut run);
+    drop(run);
+    answered
 }
 
 /// If the disk stops after any change, a crash leaves what the accepted calls made, or these and the one in flight.
@@ -208,8 +217,9 @@ fn each_stop_leaves_a_beginning_of_the_calls(rt: HostRuntime) -> Result<(), Fail
 #[test]
 fn each_stop_of_a_compaction_leaves_the_state(rt: HostRuntime) -> Result<(), Fail> {
     let mut run = Run::new(rt.alloc());
-    let survives = compactions_survived(rt.alloc(), &mut run)?;
-    assert!(rt; survives);
+    let survives = compactions_survived(rt.alloc(), &mut run);
+    drop(run);
+    assert!(rt; survives?);
     Ok(())
 }
 
@@ -270,7 +280,7 @@ fn call_and_replay(alloc: Global, run: &mut Run, dice: &mut Dice) -> Result<bool
 }
 
 /// Whether the replays between 500 calls give the frames of the book.
-fn replays_are_right(alloc: Global, run: &mut Run, thrown: u32) -> Result<bool, Refusal> {
+fn replays_of(alloc: Global, run: &mut Run, thrown: u32) -> Result<bool, Refusal> {
     run.scene.make(alloc, LIMIT)?;
     let mut dice = Dice { thrown };
     for _ in 0..500 {
@@ -281,15 +291,19 @@ fn replays_are_right(alloc: Global, run: &mut Run, thrown: u32) -> Result<bool, 
     Ok(true)
 }
 
+/// The same of a new archive.
+fn replays_are_right(alloc: Global, thrown: u32) -> Result<bool, Refusal> {
+    let mut run = Run::new(alloc);
+    let are_right = replays_of(alloc, &mut run, thrown);
+    drop(run);
+    are_right
+}
+
 /// The pages of a recording are kept from one replay to the next.
 #[test]
 fn replays_between_calls_give_the_frames_of_the_book(rt: HostRuntime) -> Result<(), Fail> {
     for thrown in [3, 5, 11] {
-        let mut run = Run::new(rt.alloc());
-        assert!(rt;
-            replays_are_right(rt.alloc(), &mut run, thrown)?,
-            "{thrown}"
-        );
+        assert!(rt; replays_are_right(rt.alloc(), thrown)?, "{thrown}");
     }
     Ok(())
 }

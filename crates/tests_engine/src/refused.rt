@@ -2,14 +2,65 @@
 //! each of its requests, which it refuses. docs/STORAGE.md, "Recovery".
 
 use crate::calls::{event_in, refused, told};
+use crate::checkpoints::checkpoints;
+use crate::groups::settles_again;
 use crate::handing::handed;
 use crate::scene::{Scene, compacts};
 use crate::script::{Place, SCRIPT, line_of, run_script};
+use archive_model::Reply;
+use control_core::Event;
 use engine_core::Poll;
 use frame_core::Refusal;
 use std::alloc::Global;
 use std::process::Abort;
 use std::test::Fail;
+
+/// What is done in an archive whose requests for memory are refused.
+#[derive(Clone, Copy)]
+pub enum Trial {
+    Calls,
+    Readings,
+    HandingOn,
+    Opening,
+    Compaction,
+    Group,
+    Checkpoint,
+}
+
+/// Does it on a disk. NoMemory if memory was refused to what comes before.
+fn tries(rt: &impl Abort, alloc: Global, scene: &mut Scene, trial: Trial) -> Result<(), Refusal> {
+    match trial {
+        Trial::Calls => plays_script(rt, alloc, scene),
+        Trial::Readings => reads(rt, alloc, scene),
+        Trial::HandingOn => hands_on(rt, alloc, scene),
+        Trial::Opening => opens(rt, alloc, scene),
+        Trial::Compaction => compacts_script(rt, alloc, scene),
+        Trial::Group => settles_again(rt, alloc, scene),
+        Trial::Checkpoint => checkpoints(rt, alloc, scene),
+    }
+}
+
+/// Where what comes before or after finds no memory, all is done again on a new disk.
+fn tries_twice(
+    rt: &impl Abort,
+    alloc: Global,
+    scene: &mut Scene,
+    trial: Trial,
+) -> Result<(), Fail> {
+    if tries(rt, alloc, scene, trial).is_err() {
+        scene.clear(alloc);
+        tries(rt, alloc, scene, trial)?;
+    }
+    Ok(())
+}
+
+/// The same from a new disk on.
+pub fn refused_memory(rt: &impl Abort, alloc: Global, trial: Trial) -> Result<(), Fail> {
+    let mut scene = Scene::new(alloc);
+    let tried = tries_twice(rt, alloc, &mut scene, trial);
+    drop(scene);
+    tried
+}
 
 /// What an archive knows, in numbers: the next recording's, how many entries count, whether it is broken, where recording 0 starts,
 /// is recorded to and stops; the next replay's, how many are open, and where replay 0 is.
@@ -33,6 +84,23 @@ fn known(scene: &mut Scene) -> Result<[i64; 9], Refusal> {
 }
 
 /// What an archive answers to a call, which is made again if memory is refused; the archive knows the same then.
+fn step_again(
+    rt: &impl Abort,
+    alloc: Global,
+    scene: &mut Scene,
+    event: &Event,
+) -> Result<Reply, Refusal> {
+    let before = known(scene)?;
+    match scene.step(alloc, event) {
+        Err(Refusal::NoMemory) => {
+            assert!(rt; known(scene)? == before);
+            scene.step(alloc, event)
+        }
+        outcome => outcome,
+    }
+}
+
+/// The same of the call of a line, as lines.
 fn answered_again(
     rt: &impl Abort,
     alloc: Global,
@@ -40,12 +108,8 @@ fn answered_again(
     call: &str,
 ) -> Result<Vec<u8>, Refusal> {
     let event = event_in(alloc, call)?;
-    let before = known(scene)?;
-    let mut outcome = scene.step(alloc, &event);
-    if matches!(outcome, Err(Refusal::NoMemory)) {
-        assert!(rt; known(scene)? == before);
-        outcome = scene.step(alloc, &event);
-    }
+    let outcome = step_again(rt, alloc, scene, &event);
+    drop(event);
     match outcome {
         Ok(reply) => told(alloc, &reply),
         Err(refusal) => refused(alloc, &refusal),
@@ -107,12 +171,7 @@ fn plays_script(rt: &impl Abort, alloc: Global, scene: &mut Scene) -> Result<(),
 /// Where what comes before a call or after it finds no memory, all is done again.
 #[test]
 fn refused_memory_of_each_call(rt: HostRuntime) -> Result<(), Fail> {
-    let mut scene = Scene::new(rt.alloc());
-    if plays_script(&rt, rt.alloc(), &mut scene).is_err() {
-        scene.clear(rt.alloc());
-        plays_script(&rt, rt.alloc(), &mut scene)?;
-    }
-    Ok(())
+    refused_memory(&rt, rt.alloc(), Trial::Calls)
 }
 
 // Three frames are recorded, of 64 bytes each.
@@ -160,12 +219,7 @@ fn reads(rt: &impl Abort, alloc: Global, scene: &mut Scene) -> Result<(), Refusa
 /// A poll that finds no memory leaves its replay where it is.
 #[test]
 fn refused_memory_of_each_reading(rt: HostRuntime) -> Result<(), Fail> {
-    let mut scene = Scene::new(rt.alloc());
-    if reads(&rt, rt.alloc(), &mut scene).is_err() {
-        scene.clear(rt.alloc());
-        reads(&rt, rt.alloc(), &mut scene)?;
-    }
-    Ok(())
+    refused_memory(&rt, rt.alloc(), Trial::Readings)
 }
 
 /// Opens a replay, whose frames are handed on, once more if memory is refused.
@@ -190,12 +244,7 @@ fn hands_on(rt: &impl Abort, alloc: Global, scene: &mut Scene) -> Result<(), Ref
 /// A taker that finds no memory leaves the replay where it is.
 #[test]
 fn refused_memory_of_frames_that_are_handed_on(rt: HostRuntime) -> Result<(), Fail> {
-    let mut scene = Scene::new(rt.alloc());
-    if hands_on(&rt, rt.alloc(), &mut scene).is_err() {
-        scene.clear(rt.alloc());
-        hands_on(&rt, rt.alloc(), &mut scene)?;
-    }
-    Ok(())
+    refused_memory(&rt, rt.alloc(), Trial::HandingOn)
 }
 
 /// The disk after so many rows, which made so many changes; NoMemory if one of them was refused.
@@ -229,12 +278,7 @@ fn opens(rt: &impl Abort, alloc: Global, scene: &mut Scene) -> Result<(), Refusa
 /// An opening that is refused memory changes no file, and succeeds if it is tried again.
 #[test]
 fn refused_memory_of_an_opening(rt: HostRuntime) -> Result<(), Fail> {
-    let mut scene = Scene::new(rt.alloc());
-    if opens(&rt, rt.alloc(), &mut scene).is_err() {
-        scene.clear(rt.alloc());
-        opens(&rt, rt.alloc(), &mut scene)?;
-    }
-    Ok(())
+    refused_memory(&rt, rt.alloc(), Trial::Opening)
 }
 
 /// Compacts the archive after the script, again if memory is refused; and the archive is there between.
@@ -254,10 +298,5 @@ fn compacts_script(rt: &impl Abort, alloc: Global, scene: &mut Scene) -> Result<
 /// A compaction that is refused memory keeps the archive, and succeeds if it is tried again.
 #[test]
 fn refused_memory_of_a_compaction(rt: HostRuntime) -> Result<(), Fail> {
-    let mut scene = Scene::new(rt.alloc());
-    if compacts_script(&rt, rt.alloc(), &mut scene).is_err() {
-        scene.clear(rt.alloc());
-        compacts_script(&rt, rt.alloc(), &mut scene)?;
-    }
-    Ok(())
+    refused_memory(&rt, rt.alloc(), Trial::Compaction)
 }

@@ -4,6 +4,7 @@ use crate::calls::{event_in, told};
 use crate::reference::{Story, text_after, text_of_book};
 use crate::scene::{Scene, leaves};
 use archive_model::{Command, Reply};
+use control_core::Event;
 use frame_core::Refusal;
 use std::alloc::Global;
 
@@ -34,14 +35,16 @@ impl Run {
         }
     }
 
-    /// Makes the call of a line.
-    pub fn make(&mut self, alloc: Global, line: &str) -> Result<(), Refusal> {
-        let event = event_in(alloc, line)?;
+    /// Notes a call that was accepted.
+    fn note(&mut self, alloc: Global, event: Event, reply: &Reply) -> Result<(), Refusal> {
+        self.answers.append(&mut told(alloc, reply)?)?;
+        self.story.note(alloc, event, end_of(reply))
+    }
+
+    /// Makes a call.
+    fn step(&mut self, alloc: Global, event: Event) -> Result<(), Refusal> {
         match self.scene.step(alloc, &event) {
-            Ok(reply) => {
-                self.answers.append(&mut told(alloc, &reply)?)?;
-                self.story.note(alloc, event, end_of(&reply))
-            }
+            Ok(reply) => self.note(alloc, event, &reply),
             Err(Refusal::DeviceFault) => {
                 self.has_stopped = true;
                 self.doubt = self.story.command(alloc, event);
@@ -49,6 +52,11 @@ impl Run {
             }
             Err(_) => Ok(()),
         }
+    }
+
+    /// Makes the call of a line.
+    pub fn make(&mut self, alloc: Global, line: &str) -> Result<(), Refusal> {
+        self.step(alloc, event_in(alloc, line)?)
     }
 }
 

@@ -21,13 +21,8 @@ pub struct Scene {
 impl Scene {
     /// A new disk.
     pub fn new(alloc: Global) -> Scene {
-        Scene::of(MemoryDisk::new(alloc))
-    }
-
-    /// A disk.
-    pub fn of(disk: MemoryDisk) -> Scene {
         Scene {
-            disk,
+            disk: MemoryDisk::new(alloc),
             archive: None,
         }
     }
@@ -89,6 +84,13 @@ impl Scene {
     pub fn crash(&mut self, choice: u8) -> Result<(), Refusal> {
         self.close();
         self.disk = self.disk.crash(&[choice])?;
+        Ok(())
+    }
+
+    /// Takes what a crash leaves of a disk by a choice.
+    pub fn take_crash(&mut self, disk: &MemoryDisk, choice: u8) -> Result<(), Refusal> {
+        self.close();
+        self.disk = disk.crash(&[choice])?;
         Ok(())
     }
 
@@ -287,8 +289,11 @@ fn damage(disk: &mut MemoryDisk, how: &str, words: &str) -> Result<(), Refusal> 
 
 /// What a crash leaves of the archive of a disk, as text.
 fn text_left(alloc: Global, disk: &MemoryDisk, choice: u8) -> Result<Vec<u8>, Refusal> {
-    let mut scene = Scene::of(disk.crash(&[choice])?);
-    scene.found(alloc)
+    let mut scene = Scene::new(alloc);
+    let taken = scene.take_crash(disk, choice);
+    let text = scene.found(alloc);
+    drop(scene);
+    taken.and(text)
 }
 
 /// Whether each of three crashes leaves one of two texts.
@@ -323,18 +328,32 @@ pub fn answers(
     Ok(())
 }
 
-/// A new disk has to answer as the parts of a script say.
-pub fn plays(rt: &impl Abort, alloc: Global, parts: &[&str]) -> Result<(), Fail> {
-    let mut scene = Scene::new(alloc);
+/// A scene has to answer as the parts of a script say.
+fn answers_all(
+    rt: &impl Abort,
+    alloc: Global,
+    scene: &mut Scene,
+    parts: &[&str],
+) -> Result<(), Fail> {
     for part in parts {
-        answers(rt, alloc, &mut scene, part)?;
+        answers(rt, alloc, scene, part)?;
     }
     Ok(())
+}
+
+/// The same of a new disk.
+pub fn plays(rt: &impl Abort, alloc: Global, parts: &[&str]) -> Result<(), Fail> {
+    let mut scene = Scene::new(alloc);
+    let played = answers_all(rt, alloc, &mut scene, parts);
+    drop(scene);
+    played
 }
 
 /// How many calls a new disk is asked for so many lines of a script behind its first one.
 pub fn calls_behind(alloc: Global, script: &str, most: usize) -> Result<u64, Refusal> {
     let mut scene = Scene::new(alloc);
     let ran = scene.run(alloc, script, most.wrapping_add(1));
-    ran.and(Ok(scene.disk().calls()))
+    let calls = scene.disk().calls();
+    drop(scene);
+    ran.and(Ok(calls))
 }

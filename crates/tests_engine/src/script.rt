@@ -75,11 +75,13 @@ pub fn run_script(alloc: Global, scene: &mut Scene, rows: usize) -> Result<(), R
     Ok(())
 }
 
-/// How many changes of the disk they make.
+/// How many changes of a new disk they make.
 fn changes_of(alloc: Global, rows: usize) -> Result<u64, Refusal> {
     let mut scene = Scene::new(alloc);
-    run_script(alloc, &mut scene, rows)?;
-    Ok(scene.disk().changes().wrapping_sub(6))
+    let ran = run_script(alloc, &mut scene, rows);
+    let changes = scene.disk().changes().wrapping_sub(6);
+    drop(scene);
+    ran.and(Ok(changes))
 }
 
 /// Each call of the script makes exactly the number of disk changes in its row.
@@ -210,8 +212,10 @@ pub fn play(alloc: Global, run: &mut Run, order: &str) -> Result<(), Refusal> {
 /// Whether a disk that obeys an order leaves what it may, and whether a call of it failed.
 fn survives_order(alloc: Global, order: &str) -> Result<(bool, bool), Refusal> {
     let mut run = Run::new(alloc);
-    play(alloc, &mut run, order)?;
-    survives(alloc, &mut run)
+    let played = play(alloc, &mut run, order);
+    let survived = survives(alloc, &mut run);
+    drop(run);
+    played.and(survived)
 }
 
 /// If the disk stops after any change, a crash leaves what the answered calls made, or these and the one in flight.
