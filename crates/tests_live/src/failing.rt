@@ -121,7 +121,9 @@ fn check_line<D: Disk, A: Naming, R: Wait + Abort>(
     reply: &str,
 ) -> Result<(), Fail> {
     let text = seat.tells(rt, alloc, archive, line)?;
-    assert!(rt; is_reply(&text, reply), "{line}");
+    let is_answered = is_reply(&text, reply);
+    drop(text);
+    assert!(rt; is_answered, "{line}");
     Ok(())
 }
 
@@ -215,7 +217,9 @@ fn told_again<D: Disk, A: Naming, R: Wait + Abort>(
     if !is_reply(&text, "error 18 NoMemory") {
         return Ok(text);
     }
-    assert!(rt; seat.standing(rt, archive) == before);
+    drop(text);
+    let after = seat.standing(rt, archive);
+    assert!(rt; after == before);
     seat.tells(rt, alloc, archive, line)
 }
 
@@ -230,10 +234,9 @@ fn is_answered<D: Disk, A: Naming, R: Wait + Abort>(
     let (line, reply, _, _) = *row;
     let text = told_again(rt, alloc, archive, seat, line)?;
     let is_right = is_reply(&text, reply);
-    assert!(rt;
-        is_right || is_reply(&text, "error 17 DeviceFault"),
-        "{line}"
-    );
+    let is_fault = is_reply(&text, "error 17 DeviceFault");
+    drop(text);
+    assert!(rt; is_right || is_fault, "{line}");
     Ok(is_right)
 }
 

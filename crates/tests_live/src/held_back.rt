@@ -263,20 +263,31 @@ fn boarded(alloc: Global, start: i64) -> Option<(Board, Writer, Reader)>
     }
 }
 
-/// A pair at such a board.
-fn seated<A: Naming>(alloc: Global, seats: Seats<A>, start: i64) -> Option<Pair<A>> {
-    let (board, writer, reader) = boarded(alloc, start)?;
+/// A pair at a board.
+fn pair_at<A: Naming>(board: Board, writer: Writer, reader: Reader, seats: Seats<A>) -> Pair<A>
+    requires slot { board.words ≡ 1 }
+    requires writer { (writer.table ≡ board) × (raised_positions writer ≡ []) }
+    requires reader { reader.table ≡ board }
+{
     let Seats {
         first,
         second,
         third,
         fourth,
     } = seats;
-    Some(Pair {
+    Pair {
         board,
         recorder: RecorderSeat::new(0, first.into_pass(), writer),
         replayer: BoundedReplayer::new(second.into_pass(), 0, reader, 0),
         seat: third,
         fourth,
-    })
+    }
+}
+
+/// A pair at such a board.
+fn seated<A: Naming>(alloc: Global, seats: Seats<A>, start: i64) -> Option<Pair<A>> {
+    match boarded(alloc, start) {
+        Some((board, writer, reader)) => Some(pair_at(board, writer, reader, seats)),
+        None => None,
+    }
 }
