@@ -1,10 +1,8 @@
 //! The command `ask`: its words, and what it comes to over scripted servers, and over a served archive.
 //! docs/SERVING.md, "Control lines".
 
-use crate::folders::{NO_LINES, ended, unused};
-use crate::serving::usual;
-use crate::words::{Full, Streams, asks_for, check_refused};
-use clap::error::ErrorKind;
+use crate::folders::{NO_LINES, emptied, ended, ends, unused};
+use crate::words::{Full, Streams, ask_for_each, check_missing, check_value, words_in};
 use command_line::{AskWords, ToolCommand};
 use folder_commands::concluded;
 use std::alloc::{AllocError, Global};
@@ -37,65 +35,33 @@ fn words_of<'a>(
     })
 }
 
+const WORDS: &str = "\
+ask 8010 sweep: Ask(AskWords { port: 8010, lines: [\"sweep\"], until: None, wait: 60 })
+ask 1 a b c: Ask(AskWords { port: 1, lines: [\"a\", \"b\", \"c\"], until: None, wait: 60 })
+ask 65535 sweep --until swept: Ask(AskWords { port: 65535, lines: [\"sweep\"], until: Some(\"swept\"), wait: 60 })
+ask --wait 1 8010 a b --until=c: Ask(AskWords { port: 8010, lines: [\"a\", \"b\"], until: Some(\"c\"), wait: 1 })
+ask 8010 a --wait=86400 b: Ask(AskWords { port: 8010, lines: [\"a\", \"b\"], until: None, wait: 86400 })
+ask 8010 -- -a --until: Ask(AskWords { port: 8010, lines: [\"-a\", \"--until\"], until: None, wait: 60 })
+";
+
 /// `ask` takes each option at its limits, before and after its lines. Words after `--` are lines, whatever they begin with.
 #[test]
 fn ask_has_its_words(rt: HostRuntime) -> Result<(), Fail> {
-    for (line, port, lines, until, wait) in [
-        ("archive_tool ask 8010 sweep", 8_010, "sweep", None, 60),
-        ("archive_tool ask 1 a b c", 1, "a|b|c", None, 60),
-        (
-            "archive_tool ask 65535 sweep --until swept",
-            65_535,
-            "sweep",
-            Some("swept"),
-            60,
-        ),
-        (
-            "archive_tool ask --wait 1 8010 a b --until=c",
-            8_010,
-            "a|b",
-            Some("c"),
-            1,
-        ),
-        (
-            "archive_tool ask 8010 a --wait=86400 b",
-            8_010,
-            "a|b",
-            None,
-            86_400,
-        ),
-        (
-            "archive_tool ask 8010 -- -a --until",
-            8_010,
-            "-a|--until",
-            None,
-            60,
-        ),
-    ] {
-        let words = words_of(rt.alloc(), port, lines, until, wait)?;
-        assert!(rt;
-            asks_for(rt.alloc(), line, ToolCommand::Ask(words))?,
-            "{line}"
-        );
-    }
-    Ok(())
+    ask_for_each(&rt, rt.alloc(), WORDS)
 }
 
 /// A port or a wait of `ask` that is out of its range, or not a number, is a usage error.
 #[test]
 fn words_of_ask_out_of_range(rt: HostRuntime) -> Result<(), Fail> {
-    for (words, value) in [
-        ("0 a", "'0' for '<port>'"),
-        ("65536 a", "'65536' for '<port>'"),
-        ("a b", "'a' for '<port>'"),
-        ("1 a --wait 0", "'0' for '--wait <seconds>'"),
-        ("1 a --wait 86401", "'86401' for '--wait <seconds>'"),
-        ("1 a --wait x", "'x' for '--wait <seconds>'"),
+    for (line, value) in [
+        ("ask 0 a", "'0' for '<port>'"),
+        ("ask 65536 a", "'65536' for '<port>'"),
+        ("ask a b", "'a' for '<port>'"),
+        ("ask 1 a --wait 0", "'0' for '--wait <seconds>'"),
+        ("ask 1 a --wait 86401", "'86401' for '--wait <seconds>'"),
+        ("ask 1 a --wait x", "'x' for '--wait <seconds>'"),
     ] {
-        let line = format!(in rt.alloc(); "archive_tool ask {words}")?;
-        let text = format!(in rt.alloc(); "error: invalid value {value}: ")?;
-        let kind = ErrorKind::ValueValidation;
-        check_refused(&rt, rt.alloc(), line.as_str(), kind, text.as_str(), 2)?;
+        check_value(rt.alloc(), line, value)?;
     }
     Ok(())
 }
@@ -103,10 +69,7 @@ fn words_of_ask_out_of_range(rt: HostRuntime) -> Result<(), Fail> {
 /// `ask` without a line is a usage error that names the missing word.
 #[test]
 fn a_missing_line(rt: HostRuntime) -> Result<(), Fail> {
-    let line = "archive_tool ask 8010";
-    let text = "error: the following required arguments were not provided:\n  <line>...\n";
-    let kind = ErrorKind::MissingRequiredArgument;
-    check_refused(&rt, rt.alloc(), line, kind, text, 2)
+    check_missing(rt.alloc(), "ask 8010", "<line>...")
 }
 
 /// Lines that are sent, the reply that is awaited, what a server answers on each connection, between bars, and how `ask` ends:
@@ -310,17 +273,39 @@ fn is_unanswered<
         && out.is_empty()
 }
 
+/// Whether that is so of a port that is sent these lines, between bars.
+fn leaves_unanswered<
+    R: Threads + Wait + Clock + Eprint + Net<Listener = TcpListener, Stream = TcpStream> + Sync,
+>(net: &R, rt: HostRuntime, asked: (u32, &str, Option<&str>), told: &str, status: u8) -> bool {
+    let (port, lines, until) = asked;
+    match words_of(rt.alloc(), port, lines, until, 1) {
+        Ok(words) => is_unanswered(net, rt, words, told, status),
+        Err(_) => false,
+    }
+}
+
+/// Whether `ask` says that nobody listens on a port.
+fn is_refused<
+    R: Threads + Wait + Clock + Eprint + Net<Listener = TcpListener, Stream = TcpStream> + Sync,
+>(net: &R, rt: HostRuntime, port: u32) -> Result<bool, AllocError> {
+    let told = format!(in rt.alloc(); "no server on port {port}: Connection refused")?;
+    Ok(leaves_unanswered(net, rt, (port, "sweep", None), told.as_str(), 3))
+}
+
 /// `ask` ends with status 3 and says why, if a server sends nothing in time, or nobody listens on the port.
 #[test]
 fn nobody_answers(rt: HostRuntime) -> Result<(), Fail> {
     let listener = TcpListener::bind(&rt, "127.0.0.1:0")?;
-    let port = u32::from(listener.local_addr()?.port());
-    let words = words_of(rt.alloc(), port, "sweep", None, 1)?;
-    assert!(rt; is_unanswered(&rt, rt, words, "nothing came for 1 seconds", 3));
+    let address = listener.local_addr();
+    let port = match address {
+        Ok(address) => u32::from(address.port()),
+        Err(_) => 0,
+    };
+    let told = "nothing came for 1 seconds";
+    let is_late = leaves_unanswered(&rt, rt, (port, "sweep", None), told, 3);
     drop(listener);
-    let told = format!(in rt.alloc(); "no server on port {port}: Connection refused")?;
-    let words = words_of(rt.alloc(), port, "sweep", None, 1)?;
-    assert!(rt; is_unanswered(&rt, rt, words, told.as_str(), 3));
+    assert!(rt; is_late);
+    assert!(rt; is_refused(&rt, rt, port)?);
     Ok(())
 }
 
@@ -341,19 +326,18 @@ fn wrong_words_of_ask(rt: HostRuntime) -> Result<(), Fail> {
             "--until wants a line without a line feed",
         ),
     ] {
-        let words = words_of(rt.alloc(), port, line, until, 1)?;
-        assert!(rt; is_unanswered(&rt, rt, words, told, 2), "{line}");
+        let asked = (port, line, until);
+        assert!(rt; leaves_unanswered(&rt, rt, asked, told, 2), "{line}");
     }
     Ok(())
 }
 
-/// A line of so many bytes.
-fn long_line(alloc: Global, length: usize) -> Result<String, AllocError> {
-    let mut line = String::new(alloc);
-    for _ in 0..length {
-        line.push('a')?;
-    }
-    Ok(line)
+/// Whether a line of so many bytes is left unanswered so.
+fn is_long<
+    R: Threads + Wait + Clock + Eprint + Net<Listener = TcpListener, Stream = TcpStream> + Sync,
+>(net: &R, rt: HostRuntime, length: usize, told: &str, status: u8) -> Result<bool, AllocError> {
+    let line = "a".repeat(rt.alloc(), length)?;
+    Ok(leaves_unanswered(net, rt, (1, line.as_str(), None), told, status))
 }
 
 /// Lines of 65,536 bytes with their ends are sent. One byte more is a usage error.
@@ -362,25 +346,20 @@ fn the_longest_lines(rt: HostRuntime) -> Result<(), Fail> {
     let refused = "no server on port 1: Connection refused";
     let lines = "lines have no line feed, and with their ends at most 65536 bytes";
     for (length, told, status) in [(65_535, refused, 3), (65_536, lines, 2)] {
-        let line = long_line(rt.alloc(), length)?;
-        let words = words_of(rt.alloc(), 1, line.as_str(), None, 1)?;
-        assert!(rt; is_unanswered(&rt, rt, words, told, status), "{length}");
+        assert!(rt; is_long(&rt, rt, length, told, status)?, "{length}");
     }
     Ok(())
 }
 
-/// Serves the archive of a folder on these ports until a line quits. The status.
-fn serves<
+/// Serves the archive of a folder by a line until another one quits. Whether its status is 0.
+fn is_served<
     R: Threads + Wait + Clock + Eprint + Net<Listener = TcpListener, Stream = TcpStream> + Sync,
->(net: &R, rt: HostRuntime, folder: &str, control: u32, receive: u32) -> u8 {
-    let mut words = usual(rt.alloc());
-    words.folder = folder;
-    words.control = control;
-    words.receive = receive;
-    words.is_quiet = true;
+>(net: &R, rt: HostRuntime, folder: &str, line: &str) -> bool {
+    let Ok(words) = words_in(rt.alloc(), line, folder) else {
+        return false;
+    };
     let mut out = Vec::new(rt.alloc());
-    let ended = ended(net, rt, ToolCommand::Serve(words), NO_LINES, &mut out);
-    ended.status()
+    ends(net, rt, words.as_slice(), &mut out, "") == Some((0, false))
 }
 
 /// Whether a server begins to answer on a port within about 10 seconds.
@@ -452,11 +431,27 @@ fn is_asked<
 }
 
 /// Ports that were free a moment ago: of control lines, and of datagrams.
-fn free_ports(rt: HostRuntime) -> io::Result<(u32, u32)> {
+pub(crate) fn free_ports(rt: HostRuntime) -> io::Result<(u32, u32)> {
     let listener = TcpListener::bind(&rt, "127.0.0.1:0")?;
     let socket = UdpSocket::bind(&rt, "127.0.0.1:0")?;
     let (control, receive) = (listener.local_addr()?, socket.local_addr()?);
     Ok((u32::from(control.port()), u32::from(receive.port())))
+}
+
+/// Makes a folder, and serves an archive in it while it is asked. Whether all goes as it has to.
+fn serves<
+    R: Threads + Wait + Clock + Eprint + Net<Listener = TcpListener, Stream = TcpStream> + Sync,
+>(net: &R, rt: HostRuntime, folder: &str) -> Result<bool, Fail> {
+    fs::create_dir(&rt, folder)?;
+    let (control, receive) = free_ports(rt)?;
+    let line = format!(in rt.alloc(); "serve @ --control {control} --receive {receive} --quiet")?;
+    let line = line.as_str();
+    let (is_served, is_right) = thread::join(
+        net,
+        move || is_served(net, rt, folder, line),
+        move || is_asked(net, rt, control),
+    );
+    Ok(is_served && is_right)
 }
 
 /// `ask` asks a served archive in one process: two lines, a reply of several lines, a refusal, an awaited reply, and a line after
@@ -464,16 +459,9 @@ fn free_ports(rt: HostRuntime) -> io::Result<(u32, u32)> {
 #[test]
 fn a_served_archive(rt: HostRuntime) -> Result<(), Fail> {
     let folder = unused(rt, "asked")?;
-    fs::create_dir(&rt, folder.as_str())?;
-    let (control, receive) = free_ports(rt)?;
-    let net = &rt;
-    let path = folder.as_str();
-    let (status, is_right) = thread::join(
-        net,
-        move || serves(net, rt, path, control, receive),
-        move || is_asked(net, rt, control),
-    );
-    assert!(rt; status == 0 && is_right);
-    fs::remove_dir_all(&rt, folder.as_str())?;
-    Ok(())
+    let is_right = serves(&rt, rt, folder.as_str());
+    let emptied = emptied(rt, folder.as_str());
+    drop(folder);
+    assert!(rt; is_right?);
+    Ok(emptied?)
 }

@@ -1,10 +1,10 @@
 //! The commands over a real folder, and how they end: docs/CONTROL.md, "The program". Each test has a folder of its own
 //! under the system's folder for temporary files.
 
-use crate::words::Full;
-use command_line::ToolCommand;
+use crate::words::{Full, Streams, words_in};
+use command_line::{ToolCommand, command_of};
 use disk_core::{Disk, FileId};
-use folder_commands::{Exit, Outlet, obeyed};
+use folder_commands::{Exit, Outlet, concluded, obeyed};
 use host_disk::HostDisk;
 use std::io::{self, Eprint, Read, Write};
 use std::net::{Net, TcpListener, TcpStream};
@@ -30,14 +30,19 @@ const SEGMENT: FileId = FileId::Segment {
 /// The path of a folder that is not there.
 pub(crate) fn unused(rt: HostRuntime, test: &str) -> Result<String, Fail> {
     let path = format!(in rt.alloc(); "{}/archive_tool-{test}", env::temp_dir(&rt)?.display())?;
-    if fs::exists(&rt, path.as_str())? {
-        fs::remove_dir_all(&rt, path.as_str())?;
+    let emptied = emptied(rt, path.as_str());
+    match emptied {
+        Ok(()) => Ok(path),
+        Err(error) => Err(Fail::from(error)),
     }
-    Ok(path)
 }
 
-fn within(rt: HostRuntime, folder: &str, name: &str) -> Result<String, Fail> {
-    Ok(format!(in rt.alloc(); "{folder}/{name}")?)
+/// Removes a folder, if it is there.
+pub(crate) fn emptied(rt: HostRuntime, path: &str) -> io::Result<()> {
+    if fs::exists(&rt, path)? {
+        fs::remove_dir_all(&rt, path)?;
+    }
+    Ok(())
 }
 
 /// How a command ends that reads and writes there.
@@ -49,25 +54,37 @@ pub(crate) fn ended<
     obeyed(net, rt, &command, input, writer).exit
 }
 
-/// The status with which it ends.
-pub(crate) fn status_of<
+/// How the command of a line ends, which writes there: its status, and whether standard error got these words alone. None if the
+/// line asks for no command.
+pub(crate) fn ends<
     R: Threads + Wait + Clock + Eprint + Net<Listener = TcpListener, Stream = TcpStream> + Sync,
-    I: Read + Drop,
     W: Write,
->(net: &R, rt: HostRuntime, command: ToolCommand<'_>, input: I, writer: &mut W) -> u8 {
-    ended(net, rt, command, input, writer).status()
+>(net: &R, rt: HostRuntime, words: &[String], writer: &mut W, error: &str) -> Option<(u8, bool)> {
+    let ended = match command_of(rt.alloc(), words) {
+        Ok(command) => ended(net, rt, command, NO_LINES, writer),
+        Err(_) => return None,
+    };
+    let streams = Streams::new(rt.alloc(), error);
+    let status = concluded(&streams, ended);
+    Some((status, streams.awaited_came.get()))
 }
 
-/// What a command writes has to be this, and its status that.
+/// A line, whose words stand between blanks, what its command writes, on standard error too if that is asked, and its status. Where
+/// `@` stands, the path of a folder comes. What else a line does: `obeys`.
+pub(crate) type Row<'a> = (&'a str, &'a str, &'a str, u8);
+
+/// What the command of a line writes has to be this, and its status that.
 pub(crate) fn check<
     R: Threads + Wait + Clock + Eprint + Net<Listener = TcpListener, Stream = TcpStream> + Sync,
->(net: &R, rt: HostRuntime, command: ToolCommand<'_>, told: &str, status: u8) -> Result<(), Fail> {
+>(net: &R, rt: HostRuntime, folder: &str, row: &Row<'_>) -> Result<(), Fail> {
+    let (line, told, error, status) = *row;
+    let words = words_in(rt.alloc(), line, folder)?;
     let mut out = Vec::new(rt.alloc());
-    let ended = status_of(net, rt, command, NO_LINES, &mut out);
-    if ended == status && out.as_slice() == told.as_bytes() {
-        Ok(())
-    } else {
-        Err(Fail::new(told))
+    let ended = ends(net, rt, words.as_slice(), &mut out, error);
+    let is_told = out.as_slice() == told.as_bytes();
+    match ended {
+        Some((found, came)) if found == status && is_told && (came || error.is_empty()) => Ok(()),
+        _ => Err(Fail::new(line)),
     }
 }
 
@@ -105,56 +122,13 @@ fn script(rt: HostRuntime, folder: &str, told: &[u8]) -> Result<(), Fail> {
     }
 }
 
-/// A command over a folder, or over the first segment file in it.
-#[derive(Clone, Copy)]
-pub(crate) enum Word {
-    Create(u32),
-    List,
-    ListReadOnly,
-    Verify,
-    VerifyReadOnly,
-    Compact,
-    Frames,
-}
-
-fn command<'a>(word: Word, folder: &'a str, file: &'a str) -> ToolCommand<'a> {
-    match word {
-        Word::Create(history) => ToolCommand::Create { folder, history },
-        Word::List | Word::ListReadOnly => ToolCommand::List {
-            folder,
-            read_only: matches!(word, Word::ListReadOnly),
-            wait: None,
-        },
-        Word::Verify | Word::VerifyReadOnly => ToolCommand::Verify {
-            folder,
-            recording: None,
-            read_only: matches!(word, Word::VerifyReadOnly),
-            wait: None,
-        },
-        Word::Compact => ToolCommand::Compact { folder, wait: None },
-        Word::Frames => ToolCommand::Frames { file },
-    }
-}
-
-/// What each of these commands writes over a folder has to be its text, and its status that number.
-pub(crate) fn check_each<
-    R: Threads + Wait + Clock + Eprint + Net<Listener = TcpListener, Stream = TcpStream> + Sync,
->(net: &R, rt: HostRuntime, folder: &str, rows: &[(Word, &str, u8)]) -> Result<(), Fail> {
-    let file = within(rt, folder, "0-0.rec")?;
-    for (word, told, status) in rows {
-        check(
-            net,
-            rt,
-            command(*word, folder, file.as_str()),
-            told,
-            *status,
-        )?;
-    }
+/// Damages the first frame of the first recording.
+fn damage(rt: HostRuntime, folder: &str) -> Result<(), Fail> {
+    let mut disk = disk_of(rt, folder)?;
+    disk.write_at(SEGMENT, 0, &[1])?;
+    disk.sync(SEGMENT)?;
     Ok(())
 }
-
-/// An archive without recordings is made.
-pub(crate) const CREATED: [(Word, &str, u8); 1] = [(Word::Create(16), "created\n", 0)];
 
 /// Cuts the catalogue of an archive to a length.
 fn cut_catalogue(rt: HostRuntime, folder: &str, length: u64) -> Result<(), Fail> {
@@ -163,76 +137,187 @@ fn cut_catalogue(rt: HostRuntime, folder: &str, length: u64) -> Result<(), Fail>
     Ok(())
 }
 
+/// Closes the gate of the Settle behind the first recording's Start in the catalogue of a folder.
+fn close_gate(rt: HostRuntime, folder: &str) -> Result<(), Fail> {
+    let mut disk = disk_of(rt, folder)?;
+    disk.write_at(FileId::BankA, 89, &[0])?;
+    Ok(())
+}
+
+/// Removes a file of a folder.
+fn remove(rt: HostRuntime, folder: &str, name: &str) -> Result<(), Fail> {
+    let file = format!(in rt.alloc(); "{folder}/{name}")?;
+    fs::remove_file(&rt, file.as_str())?;
+    Ok(())
+}
+
+/// Makes a folder in a folder.
+fn make(rt: HostRuntime, folder: &str, name: &str) -> Result<(), Fail> {
+    let path = format!(in rt.alloc(); "{folder}/{name}")?;
+    fs::create_dir(&rt, path.as_str())?;
+    Ok(())
+}
+
+/// The folder has to hold no files.
+fn is_empty(rt: HostRuntime, folder: &str) -> Result<(), Fail> {
+    let mut disk = disk_of(rt, folder)?;
+    match disk.list()?.as_slice() {
+        [] => Ok(()),
+        _ => Err(Fail::new(folder)),
+    }
+}
+
+/// The same as `check` while another opening has the folder.
+fn check_held<
+    R: Threads + Wait + Clock + Eprint + Net<Listener = TcpListener, Stream = TcpStream> + Sync,
+>(net: &R, rt: HostRuntime, folder: &str, row: &Row<'_>) -> Result<(), Fail> {
+    let held = disk_of(rt, folder)?;
+    let checked = check(net, rt, folder, row);
+    drop(held);
+    checked
+}
+
+/// Obeys a line: `record` and `record-more` record a frame, `damage` damages the first one, `cut` cuts the catalogue, `close-gate`
+/// closes an entry's gate, `remove` removes a file, `empty` asks for no files, and `mkdir` makes a folder in it. A line behind `held` is
+/// checked while another opening has the folder, each other one without.
+fn obeys<
+    R: Threads + Wait + Clock + Eprint + Net<Listener = TcpListener, Stream = TcpStream> + Sync,
+>(net: &R, rt: HostRuntime, folder: &str, row: &Row<'_>) -> Result<(), Fail> {
+    let (line, told, error, status) = *row;
+    let (word, rest) = line.split_once(' ').unwrap_or((line, ""));
+    match word {
+        "record" => record(rt, folder),
+        "record-more" => record_more(rt, folder),
+        "damage" => damage(rt, folder),
+        "cut" => cut_catalogue(rt, folder, rest.parse::<u64>().unwrap_or(0)),
+        "close-gate" => close_gate(rt, folder),
+        "remove" => remove(rt, folder, rest),
+        "empty" => is_empty(rt, folder),
+        "mkdir" => make(rt, folder, rest),
+        "held" => check_held(net, rt, folder, &(rest, told, error, status)),
+        _ => check(net, rt, folder, row),
+    }
+}
+
+/// Obeys each line of a table in a folder.
+pub(crate) fn obeys_each<
+    R: Threads + Wait + Clock + Eprint + Net<Listener = TcpListener, Stream = TcpStream> + Sync,
+>(net: &R, rt: HostRuntime, folder: &str, rows: &[Row<'_>]) -> Result<(), Fail> {
+    for row in rows {
+        obeys(net, rt, folder, row)?;
+    }
+    Ok(())
+}
+
+/// The same in a folder of its own, which is not there before and after.
+pub(crate) fn plays<
+    R: Threads + Wait + Clock + Eprint + Net<Listener = TcpListener, Stream = TcpStream> + Sync,
+>(net: &R, rt: HostRuntime, test: &str, rows: &[Row<'_>]) -> Result<(), Fail> {
+    let path = unused(rt, test)?;
+    let obeyed = obeys_each(net, rt, path.as_str(), rows);
+    let emptied = emptied(rt, path.as_str());
+    drop(path);
+    obeyed?;
+    Ok(emptied?)
+}
+
 /// What one command made and another recorded in a folder, later commands list, verify and print as frames.
 #[test]
 fn an_archive_outlives_its_process(rt: HostRuntime) -> Result<(), Fail> {
-    let path = unused(rt, "whole")?;
-    let folder = path.as_str();
-    check_each(&rt, rt, folder, &CREATED)?;
-    let empty = [
-        (Word::Create(16), "", 1),
-        (Word::List, "end 0\n", 0),
-        (Word::Verify, "", 0),
-    ];
-    check_each(&rt, rt, folder, &empty)?;
-    record(rt, folder)?;
     let listed = "recording 0 1000 -1 0 64 42 131072 65536 1408 7 1001 c\nend 1\n";
-    let recorded = [
-        (Word::List, listed, 0),
-        (Word::Verify, "verified 1\n", 0),
-        (Word::Frames, "frame 42 0 1 37 c0\nend 1\n", 0),
+    let rows = [
+        ("create @ --history 16", "created\n", "", 0),
+        ("create @ --history 16", "", "", 1),
+        ("list @", "end 0\n", "", 0),
+        ("verify @", "", "", 0),
+        ("record", "", "", 0),
+        ("list @", listed, "", 0),
+        ("verify @", "verified 1\n", "", 0),
+        ("frames @/0-0.rec", "frame 42 0 1 37 c0\nend 1\n", "", 0),
     ];
-    check_each(&rt, rt, folder, &recorded)?;
-    fs::remove_dir_all(&rt, folder)?;
-    Ok(())
+    plays(&rt, rt, "whole", &rows)
 }
 
 /// `list` and `verify` with `--read-only` leave a recording active. They work while another opening has the folder, and `list`
 /// does not.
 #[test]
 fn looking_stops_no_recording(rt: HostRuntime) -> Result<(), Fail> {
-    let path = unused(rt, "looked-at")?;
-    let folder = path.as_str();
-    check_each(&rt, rt, folder, &CREATED)?;
-    record(rt, folder)?;
     let active = "recording 0 1000 -1 0 -1 42 131072 65536 1408 7 1001 c\nend 1\n";
     let rows = [
-        (Word::ListReadOnly, active, 0),
-        (Word::VerifyReadOnly, "verified 1\n", 0),
-        (Word::ListReadOnly, active, 0),
-        (Word::List, "", 3),
+        ("create @ --history 16", "created\n", "", 0),
+        ("record", "", "", 0),
+        ("held list @ --read-only", active, "", 0),
+        ("held verify @ --read-only", "verified 1\n", "", 0),
+        ("held list @ --read-only", active, "", 0),
+        ("held list @", "", "", 3),
     ];
-    let held = disk_of(rt, folder)?;
-    check_each(&rt, rt, folder, &rows)?;
-    drop(held);
-    fs::remove_dir_all(&rt, folder)?;
-    Ok(())
+    plays(&rt, rt, "looked-at", &rows)
 }
 
 /// After `compact` a full history has room. It is refused if the folder is missing, in use, or without a bank A.
 #[test]
 fn a_full_history_is_compacted(rt: HostRuntime) -> Result<(), Fail> {
-    let path = unused(rt, "full")?;
-    let folder = path.as_str();
-    let new = [(Word::Compact, "", 3), (Word::Create(2), "created\n", 0)];
-    check_each(&rt, rt, folder, &new)?;
-    record(rt, folder)?;
-    check_each(&rt, rt, folder, &[(Word::Compact, "compacted\n", 0)])?;
-    record_more(rt, folder)?;
-    check_each(
-        &rt,
-        rt,
-        folder,
-        &[(Word::Verify, "verified 1\nverified 1\n", 0)],
-    )?;
-    let held = disk_of(rt, folder)?;
-    check_each(&rt, rt, folder, &[(Word::Compact, "", 3)])?;
-    drop(held);
-    let bank = within(rt, folder, "catalogue-a.bank")?;
-    fs::remove_file(&rt, bank.as_str())?;
-    check_each(&rt, rt, folder, &[(Word::Compact, "", 1)])?;
-    fs::remove_dir_all(&rt, folder)?;
-    Ok(())
+    let rows = [
+        ("compact @", "", "", 3),
+        ("create @ --history 2", "created\n", "", 0),
+        ("record", "", "", 0),
+        ("compact @", "compacted\n", "", 0),
+        ("record-more", "", "", 0),
+        ("verify @", "verified 1\nverified 1\n", "", 0),
+        ("held compact @", "", "", 3),
+        ("remove catalogue-a.bank", "", "", 0),
+        ("compact @", "", "", 1),
+    ];
+    plays(&rt, rt, "full", &rows)
+}
+
+/// A file has to have so many bytes; none if it is not to be there.
+fn has_length(rt: HostRuntime, file: &str, length: Option<u64>) -> Result<(), Fail> {
+    let found = if fs::exists(&rt, file)? {
+        Some(fs::metadata(&rt, file)?.len())
+    } else {
+        None
+    };
+    if found == length {
+        Ok(())
+    } else {
+        Err(Fail::new(file))
+    }
+}
+
+/// The same of a file of a folder.
+fn has_file(rt: HostRuntime, folder: &str, name: &str, length: Option<u64>) -> Result<(), Fail> {
+    let file = format!(in rt.alloc(); "{folder}/{name}")?;
+    has_length(rt, file.as_str(), length)
+}
+
+/// An archive of a frame is exported into its own folder, and to a file beside that, which is there then.
+fn exports<
+    R: Threads + Wait + Clock + Eprint + Net<Listener = TcpListener, Stream = TcpStream> + Sync,
+>(net: &R, rt: HostRuntime, folder: &str) -> Result<(), Fail> {
+    let rows = [
+        ("create @ --history 16", "created\n", "", 0),
+        ("record", "", "", 0),
+        ("export @ 1 --pcap @/../frames.pcap", "", "", 1),
+        ("export @ 0 --pcap @/0-0.rec", "", "", 1),
+    ];
+    obeys_each(net, rt, folder, &rows)?;
+    has_file(rt, folder, "0-0.rec", Some(64))?;
+    has_file(rt, folder, "../frames.pcap", None)?;
+    let row = ("export @ 0 --pcap @/../frames.pcap", "exported\n", "", 0);
+    check(net, rt, folder, &row)?;
+    has_file(rt, folder, "0-0.rec", Some(64))?;
+    has_file(rt, folder, "../frames.pcap", Some(132))?;
+    has_file(rt, folder, "../frames.pcap.part", None)
+}
+
+/// Makes a folder, and exports an archive in it.
+fn exports_in<
+    R: Threads + Wait + Clock + Eprint + Net<Listener = TcpListener, Stream = TcpStream> + Sync,
+>(net: &R, rt: HostRuntime, outer: &str) -> Result<(), Fail> {
+    fs::create_dir(&rt, outer)?;
+    let folder = format!(in rt.alloc(); "{outer}/a")?;
+    exports(net, rt, folder.as_str())
 }
 
 /// An export of a missing recording, or into the archive's folder, leaves no file. That of one frame has 132 bytes: headers of
@@ -240,81 +325,43 @@ fn a_full_history_is_compacted(rt: HostRuntime) -> Result<(), Fail> {
 #[test]
 fn a_refused_export_leaves_no_file(rt: HostRuntime) -> Result<(), Fail> {
     let path = unused(rt, "exported")?;
-    let folder = path.as_str();
-    check_each(&rt, rt, folder, &CREATED)?;
-    record(rt, folder)?;
-    let beside = unused(rt, "captured")?;
-    fs::create_dir(&rt, beside.as_str())?;
-    let file = within(rt, beside.as_str(), "frames.pcap")?;
-    let inside = within(rt, folder, "0-0.rec")?;
-    let before = fs::metadata(&rt, inside.as_str())?.len();
-    for (recording, pcap, told, status) in [
-        (1, file.as_str(), "", 1),
-        (0, inside.as_str(), "", 1),
-        (0, file.as_str(), "exported\n", 0),
-    ] {
-        assert!(rt; !fs::exists(&rt, file.as_str())?);
-        let command = ToolCommand::Export {
-            folder,
-            recording,
-            from: None,
-            to: None,
-            pcap,
-        };
-        check(&rt, rt, command, told, status)?;
-    }
-    assert!(rt; fs::metadata(&rt, inside.as_str())?.len() == before);
-    assert!(rt; fs::metadata(&rt, file.as_str())?.len() == 132);
-    let part = within(rt, beside.as_str(), "frames.pcap.part")?;
-    assert!(rt; !fs::exists(&rt, part.as_str())?);
-    fs::remove_dir_all(&rt, beside.as_str())?;
-    fs::remove_dir_all(&rt, folder)?;
-    Ok(())
+    let exported = exports_in(&rt, rt, path.as_str());
+    let emptied = emptied(rt, path.as_str());
+    drop(path);
+    exported?;
+    Ok(emptied?)
 }
 
 /// `verify` and `frames` report a damaged frame by a line and status 3. `list` has status 3 over a damaged catalogue, and 1 over
 /// one that is cut too short.
 #[test]
 fn damage_in_a_folder_is_told(rt: HostRuntime) -> Result<(), Fail> {
-    let path = unused(rt, "damaged")?;
-    let folder = path.as_str();
-    check_each(&rt, rt, folder, &CREATED)?;
-    record(rt, folder)?;
-    let mut disk = disk_of(rt, folder)?;
-    disk.write_at(SEGMENT, 0, &[1])?;
-    disk.sync(SEGMENT)?;
-    drop(disk);
     let rows = [
-        (Word::Verify, "error 15 Damaged 0 0\n", 3),
-        (Word::Frames, "error 21 BadFrame 0\n", 3),
+        ("create @ --history 16", "created\n", "", 0),
+        ("record", "", "", 0),
+        ("damage", "", "", 0),
+        ("verify @", "error 15 Damaged 0 0\n", "", 3),
+        ("frames @/0-0.rec", "error 21 BadFrame 0\n", "", 3),
+        ("cut 40", "", "", 0),
+        ("list @", "", "", 3),
+        ("cut 31", "", "", 0),
+        ("list @", "", "", 1),
     ];
-    check_each(&rt, rt, folder, &rows)?;
-    cut_catalogue(rt, folder, 40)?;
-    check_each(&rt, rt, folder, &[(Word::List, "", 3)])?;
-    cut_catalogue(rt, folder, 31)?;
-    check_each(&rt, rt, folder, &[(Word::List, "", 1)])?;
-    fs::remove_dir_all(&rt, folder)?;
-    Ok(())
+    plays(&rt, rt, "damaged", &rows)
 }
 
 /// Commands over a missing folder or one in use end with status 3, and over a folder without an archive with status 1.
 #[test]
 fn folders_that_hold_no_archive(rt: HostRuntime) -> Result<(), Fail> {
-    let path = unused(rt, "empty")?;
-    let folder = path.as_str();
-    let missing = [
-        (Word::List, "", 3),
-        (Word::Frames, "", 3),
-        (Word::Create(0), "", 1),
-        (Word::List, "", 1),
-        (Word::Verify, "", 1),
+    let rows = [
+        ("list @", "", "", 3),
+        ("frames @/0-0.rec", "", "", 3),
+        ("create @ --history 0", "", "", 1),
+        ("list @", "", "", 1),
+        ("verify @", "", "", 1),
+        ("held list @", "", "", 3),
     ];
-    check_each(&rt, rt, folder, &missing)?;
-    let held = disk_of(rt, folder)?;
-    check_each(&rt, rt, folder, &[(Word::List, "", 3)])?;
-    drop(held);
-    fs::remove_dir_all(&rt, folder)?;
-    Ok(())
+    plays(&rt, rt, "empty", &rows)
 }
 
 /// Takes what is written, and cannot hand it on.
@@ -331,18 +378,24 @@ impl Write for Holding {
     }
 }
 
+/// The status with which `create` ends there.
+fn status_held<
+    R: Threads + Wait + Clock + Eprint + Net<Listener = TcpListener, Stream = TcpStream> + Sync,
+>(net: &R, rt: HostRuntime, folder: &str) -> u8 {
+    let history = 16;
+    let command = ToolCommand::Create { folder, history };
+    ended(net, rt, command, NO_LINES, &mut Holding).status()
+}
+
 /// A command whose output is taken and can't be flushed ends with status 3.
 #[test]
 fn what_is_not_handed_on_is_told(rt: HostRuntime) -> Result<(), Fail> {
     let path = unused(rt, "held")?;
-    let folder = path.as_str();
-    let command = ToolCommand::Create {
-        folder,
-        history: 16,
-    };
-    assert!(rt; status_of(&rt, rt, command, NO_LINES, &mut Holding) == 3);
-    fs::remove_dir_all(&rt, folder)?;
-    Ok(())
+    let status = status_held(&rt, rt, path.as_str());
+    let emptied = emptied(rt, path.as_str());
+    drop(path);
+    assert!(rt; status == 3);
+    Ok(emptied?)
 }
 
 /// An outlet keeps the error of a write and that of a flush, and has none while all is taken.

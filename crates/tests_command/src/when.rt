@@ -1,29 +1,62 @@
 //! The command `when` over a real folder, and the options of times: docs/CONTROL.md, "When a frame was recorded"; docs/SERVING.md, "When a
 //! frame was recorded".
 
-use crate::folders::{check, unused};
-use crate::serving::usual;
-use crate::words::{asks_for, check_refused};
-use clap::error::ErrorKind;
-use command_line::ToolCommand;
+use crate::folders::{Row, emptied, obeys_each, unused};
+use crate::serving::{change_each, check_option};
 use std::fs;
+use std::io::Eprint;
+use std::net::{Net, TcpListener, TcpStream};
+use std::rt::Clock;
+use std::sync::Wait;
 use std::test::*;
-
-/// Makes a folder with these files of times.
-fn folder_with(rt: HostRuntime, test: &str, files: &[(&str, &str)]) -> Result<String, Fail> {
-    let folder = unused(rt, test)?;
-    fs::create_dir(&rt, folder.as_str())?;
-    for (name, text) in files {
-        write_file(rt, folder.as_str(), name, text)?;
-    }
-    Ok(folder)
-}
+use std::thread::Threads;
 
 /// Writes a file of a folder.
 fn write_file(rt: HostRuntime, folder: &str, name: &str, text: &str) -> Result<(), Fail> {
     let path = format!(in rt.alloc(); "{folder}/{name}")?;
     fs::write(&rt, path.as_str(), text)?;
     Ok(())
+}
+
+/// Makes a folder with these files of times.
+fn make_folder(rt: HostRuntime, folder: &str, files: &[(&str, &str)]) -> Result<(), Fail> {
+    fs::create_dir(&rt, folder)?;
+    for (name, text) in files {
+        write_file(rt, folder, name, text)?;
+    }
+    Ok(())
+}
+
+/// Looks up times in such a folder.
+fn looks_up_in<
+    R: Threads + Wait + Clock + Eprint + Net<Listener = TcpListener, Stream = TcpStream> + Sync,
+>(
+    net: &R,
+    rt: HostRuntime,
+    folder: &str,
+    files: &[(&str, &str)],
+    rows: &[Row<'_>],
+) -> Result<(), Fail> {
+    make_folder(rt, folder, files)?;
+    obeys_each(net, rt, folder, rows)
+}
+
+/// The same in a folder of its own, which is not there before and after.
+fn looks_up<
+    R: Threads + Wait + Clock + Eprint + Net<Listener = TcpListener, Stream = TcpStream> + Sync,
+>(
+    net: &R,
+    rt: HostRuntime,
+    test: &str,
+    files: &[(&str, &str)],
+    rows: &[Row<'_>],
+) -> Result<(), Fail> {
+    let folder = unused(rt, test)?;
+    let looked = looks_up_in(net, rt, folder.as_str(), files, rows);
+    let emptied = emptied(rt, folder.as_str());
+    drop(folder);
+    looked?;
+    Ok(emptied?)
 }
 
 /// `when` prints where a recording stood at a time, or that there is nothing before; of a recording without a file, with two files, or
@@ -36,87 +69,55 @@ fn where_a_recording_stood(rt: HostRuntime) -> Result<(), Fail> {
         ("1-6.times", "100 64\n"),
         ("notes", ""),
     ];
-    let folder = folder_with(rt, "when", files.as_slice())?;
-    for (recording, time, told, status) in [
-        (
-            0,
-            "2025-11-29T08:41:36.123Z",
-            "position 64 from 1764405696123 to 1764405697000\n",
-            0,
-        ),
-        (
-            0,
-            "1764405697000",
-            "position 128 from 1764405697000 to -1\n",
-            0,
-        ),
-        (0, "1764405696122", "none before 1764405696122\n", 1),
-        (2, "5", "", 1),
-        (1, "500", "", 1),
-        (0, "yesterday", "", 2),
-    ] {
-        let command = ToolCommand::When {
-            folder: folder.as_str(),
-            recording,
-            time,
-        };
-        check(&rt, rt, command, told, status)?;
-    }
-    Ok(())
+    let first = "position 64 from 1764405696123 to 1764405697000\n";
+    let second = "position 128 from 1764405697000 to -1\n";
+    let none = "none before 1764405696122\n";
+    let rows = [
+        ("when @ 0 2025-11-29T08:41:36.123Z", first, "", 0),
+        ("when @ 0 1764405697000", second, "", 0),
+        ("when @ 0 1764405696122", none, "", 1),
+        ("when @ 2 5", "", "", 1),
+        ("when @ 1 500", "", "", 1),
+        ("when @ 0 yesterday", "", "", 2),
+    ];
+    looks_up(&rt, rt, "when", &files, &rows)
 }
 
 /// A folder that is not there, and a file that is a folder or a link, are reported by a device fault.
 #[test]
 fn a_folder_of_times_that_cannot_be_read(rt: HostRuntime) -> Result<(), Fail> {
-    let folder = folder_with(rt, "when_unread", [("times", "1 64\n")].as_slice())?;
-    let folder_in_place = format!(in rt.alloc(); "{folder}/3-1.times")?;
-    fs::create_dir(&rt, folder_in_place.as_str())?;
-    let missing = format!(in rt.alloc(); "{folder}/none")?;
-    for (folder, recording) in [(folder.as_str(), 3), (missing.as_str(), 0)] {
-        let command = ToolCommand::When {
-            folder,
-            recording,
-            time: "5",
-        };
-        check(&rt, rt, command, "", 3)?;
-    }
-    Ok(())
+    let rows = [
+        ("mkdir 3-1.times", "", "", 0),
+        ("when @ 3 5", "", "", 3),
+        ("when @/none 0 5", "", "", 3),
+    ];
+    looks_up(&rt, rt, "when_unread", &[("times", "1 64\n")], &rows)
 }
+
+const TIMES: &str = "\
+--times b: times: Some(\"b\")
+--times=b --times-every 10: times: Some(\"b\"); times_every: 10
+--times-every=60000: times_every: 60000
+";
 
 /// `serve` takes a folder of times, and how often they are noted.
 #[test]
 fn serve_has_its_times(rt: HostRuntime) -> Result<(), Fail> {
-    for (options, times, every) in [
-        ("--times b", Some("b"), 1_000),
-        ("--times=b --times-every 10", Some("b"), 10),
-        ("--times-every=60000", None, 60_000),
-    ] {
-        let line = format!(in rt.alloc();
-            "archive_tool serve a --control 1 --receive 2 {options}"
-        )?;
-        let mut words = usual(rt.alloc());
-        words.times = times;
-        words.times_every = every;
-        assert!(rt;
-            asks_for(rt.alloc(), line.as_str(), ToolCommand::Serve(words))?,
-            "{options}"
-        );
-    }
-    Ok(())
+    change_each(&rt, rt.alloc(), TIMES)
 }
 
 /// Lines of times may be 10 milliseconds to a minute apart.
 #[test]
 fn times_out_of_their_range(rt: HostRuntime) -> Result<(), Fail> {
-    for every in ["9", "60001", "x"] {
-        let line = format!(in rt.alloc();
-            "archive_tool serve a --control 1 --receive 2 --times b --times-every {every}"
-        )?;
-        let text = format!(in rt.alloc();
-            "error: invalid value '{every}' for '--times-every <milliseconds>': "
-        )?;
-        let kind = ErrorKind::ValueValidation;
-        check_refused(&rt, rt.alloc(), line.as_str(), kind, text.as_str(), 2)?;
+    for (options, value) in [
+        ("--times-every 9", "'9' for '--times-every <milliseconds>'"),
+        (
+            "--times-every 60001",
+            "'60001' for '--times-every <milliseconds>'",
+        ),
+        ("--times-every x", "'x' for '--times-every <milliseconds>'"),
+    ] {
+        check_option(rt.alloc(), options, value)?;
     }
     Ok(())
 }
