@@ -2,7 +2,7 @@
 
 use crate::crew::{now, since};
 use crate::folder::{disk_of, opened};
-use crate::text::ask;
+use crate::text::{asked, open_replay};
 use archive_model::Reply;
 use control_core::Event;
 use disk_core::Disk;
@@ -23,35 +23,46 @@ pub(crate) fn replayed<R: Clock>(
     let alloc = host.alloc();
     let mut engine = opened(alloc, disk_of(host, folder)?)?;
     let begun = now(rt);
+    let frames = frames_in_all(alloc, &mut engine, replays, i64::from(most));
+    let took = since(rt, begun);
+    drop(engine);
+    Ok((frames?, took.ok_or(Refusal::DeviceFault)?))
+}
+
+/// How many frames so many replays give.
+fn frames_in_all<D: Disk>(
+    alloc: Global,
+    engine: &mut Engine<D>,
+    replays: u32,
+    most: i64,
+) -> Result<u64, Refusal> {
     let mut frames = 0u64;
     for _ in 0..replays {
-        frames = frames.saturating_add(frames_of(alloc, &mut engine, i64::from(most))?);
+        frames = frames.saturating_add(frames_of(alloc, engine, most)?);
     }
-    let took = since(rt, begun);
-    Ok((frames, took.ok_or(Refusal::DeviceFault)?))
+    Ok(frames)
+}
+
+/// How many frames a poll gives, and whether the replay is done.
+fn count_of(reply: Reply) -> Result<(u64, bool), Refusal> {
+    match reply {
+        Reply::Polled { frames, next } => Ok((frames.as_slice().len() as u64, next.is_none())),
+        _ => Err(Refusal::BadLine),
+    }
 }
 
 /// How many frames a replay gives.
 fn frames_of<D: Disk>(alloc: Global, engine: &mut Engine<D>, most: i64) -> Result<u64, Refusal> {
-    let open = Event::ReplayOpen {
-        recording: 0,
-        position: -1,
-        length: -1,
-    };
-    let Reply::ReplayOpened { replay } = ask(alloc, engine, &open)? else {
-        return Err(Refusal::BadLine);
-    };
-    let poll = Event::ReplayPoll { replay, max: most };
+    let replay = open_replay(alloc, engine, 0)?;
     let mut count = 0u64;
     for _ in 0..u64::MAX {
-        let Reply::Polled { frames, next } = ask(alloc, engine, &poll)? else {
-            return Err(Refusal::BadLine);
-        };
-        count = count.saturating_add(frames.as_slice().len() as u64);
-        if next.is_none() {
+        let polled = asked(alloc, engine, Event::ReplayPoll { replay, max: most });
+        let (frames, is_done) = count_of(polled?)?;
+        count = count.saturating_add(frames);
+        if is_done {
             break;
         }
     }
-    ask(alloc, engine, &Event::ReplayClose { replay })?;
+    asked(alloc, engine, Event::ReplayClose { replay })?;
     Ok(count)
 }

@@ -3,7 +3,7 @@
 use crate::blocks::{LARGE_BLOCK, LONG_TERM, SMALL_BLOCK, fields, large_block, small_block};
 use crate::crew::{Left, crewed, now, since};
 use crate::folder::{disk_of, made};
-use crate::text::ask;
+use crate::text::{ask, asked};
 use crate::work::{Plan, Work};
 use archive_model::Reply;
 use control_core::{Event, Request};
@@ -50,7 +50,20 @@ fn timed<D: Disk + Drop + Send, R: Threads + Wait + Clock + Print + Sync>(
     disk: D,
     load: Load,
 ) -> Result<u128, Refusal> {
-    let mut engine = made(alloc, disk, LIMIT)?;
+    match made(alloc, disk, LIMIT) {
+        Ok(engine) => timed_on(rt, alloc, how, engine, load),
+        Err(refusal) => Err(refusal),
+    }
+}
+
+/// The same on a new archive.
+fn timed_on<D: Disk + Drop + Send, R: Threads + Wait + Clock + Print + Sync>(
+    rt: &R,
+    alloc: Global,
+    how: &str,
+    mut engine: Engine<D>,
+    load: Load,
+) -> Result<u128, Refusal> {
     let (keeps, threads) = match how {
         "engine" => return alone(rt, alloc, &mut engine, load),
         "call" => (true, 1),
@@ -62,11 +75,10 @@ fn timed<D: Disk + Drop + Send, R: Threads + Wait + Clock + Print + Sync>(
 
 /// How long the threads worked, where each call was answered Ok.
 fn took_of<D: Disk + Drop>(left: Result<Left<D>, Refusal>) -> Result<u128, Refusal> {
-    let left = left?;
-    if are_right(left.works.as_slice()) {
-        left.took.ok_or(Refusal::DeviceFault)
-    } else {
-        Err(Refusal::BadLine)
+    match left {
+        Ok(left) if are_right(left.works.as_slice()) => left.took.ok_or(Refusal::DeviceFault),
+        Ok(_) => Err(Refusal::BadLine),
+        Err(refusal) => Err(refusal),
     }
 }
 
@@ -122,12 +134,12 @@ fn alone<D: Disk, R: Clock>(
     engine: &mut Engine<D>,
     load: Load,
 ) -> Result<u128, Refusal> {
-    let start = start(alloc)?;
-    let session = session_of(ask(alloc, engine, &start));
+    let session = session_of(asked(alloc, engine, start(alloc)?));
     let events = events_of(alloc, session, load)?;
     let begun = now(rt);
     let is_right = are_accepted(alloc, engine, events.as_slice());
     let took = since(rt, begun);
+    drop(events);
     if is_right {
         took.ok_or(Refusal::DeviceFault)
     } else {

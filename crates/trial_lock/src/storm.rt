@@ -81,9 +81,21 @@ pub(crate) fn run<R: Threads + Wait + Clock + Print + Sync>(
     judged(alloc, left?)
 }
 
-fn judged(alloc: Global, mut left: Left<MemoryDisk>) -> Result<Verdict, Refusal> {
+fn judged(alloc: Global, left: Left<MemoryDisk>) -> Result<Verdict, Refusal> {
+    match made(alloc, MemoryDisk::new(alloc), LIMIT) {
+        Ok(engine) => judged_by(alloc, engine, left),
+        Err(refusal) => Err(refusal),
+    }
+}
+
+/// By a new archive.
+fn judged_by(
+    alloc: Global,
+    engine: Engine<MemoryDisk>,
+    mut left: Left<MemoryDisk>,
+) -> Result<Verdict, Refusal> {
     let mut again = Again {
-        engine: made(alloc, MemoryDisk::new(alloc), LIMIT)?,
+        engine,
         story: Story::new(alloc, LIMIT),
         same: 0,
         counts: [0; 8],

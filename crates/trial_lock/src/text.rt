@@ -21,6 +21,37 @@ pub(crate) fn ask<D: Disk>(
     engine.step(alloc, event)
 }
 
+/// The same of an event that goes then.
+pub(crate) fn asked<D: Disk>(
+    alloc: Global,
+    engine: &mut Engine<D>,
+    event: Event,
+) -> Result<Reply, Refusal> {
+    ask(alloc, engine, &event)
+}
+
+/// The replay that an answer opens.
+fn replay_of(reply: Reply) -> Result<i64, Refusal> {
+    match reply {
+        Reply::ReplayOpened { replay } => Ok(replay),
+        _ => Err(Refusal::BadLine),
+    }
+}
+
+/// Opens a replay of a whole recording.
+pub(crate) fn open_replay<D: Disk>(
+    alloc: Global,
+    engine: &mut Engine<D>,
+    recording: i64,
+) -> Result<i64, Refusal> {
+    let open = Event::ReplayOpen {
+        recording,
+        position: -1,
+        length: -1,
+    };
+    replay_of(asked(alloc, engine, open)?)
+}
+
 /// What is told of an answer.
 pub(crate) fn told(alloc: Global, answer: &Result<Reply, Refusal>) -> Result<Vec<u8>, Refusal> {
     match answer {
@@ -52,8 +83,7 @@ pub(crate) fn text_of(alloc: Global, engine: &mut Engine<MemoryDisk>) -> Result<
 }
 
 fn listed(alloc: Global, engine: &mut Engine<MemoryDisk>) -> Result<Vec<u8>, Refusal> {
-    let list = list();
-    let answer = ask(alloc, engine, &list);
+    let answer = asked(alloc, engine, list());
     told(alloc, &answer)
 }
 
@@ -74,15 +104,10 @@ fn frames_of(
     engine: &mut Engine<MemoryDisk>,
     recording: i64,
 ) -> Result<Vec<u8>, Refusal> {
-    let open = Event::ReplayOpen {
-        recording,
-        position: -1,
-        length: -1,
-    };
-    let Ok(Reply::ReplayOpened { replay }) = ask(alloc, engine, &open) else {
+    let Ok(replay) = open_replay(alloc, engine, recording) else {
         return Ok(Vec::new(alloc));
     };
-    let polled = ask(alloc, engine, &Event::ReplayPoll { replay, max: 4_096 });
-    let _ = ask(alloc, engine, &Event::ReplayClose { replay });
+    let polled = asked(alloc, engine, Event::ReplayPoll { replay, max: 4_096 });
+    let _ = asked(alloc, engine, Event::ReplayClose { replay });
     told(alloc, &polled)
 }
