@@ -127,11 +127,21 @@ fn of_one_bank(alloc: Global) -> Option<MemoryDisk> {
     Some(disk)
 }
 
+/// Whether it is served so.
+fn is_refused<R: Threads + Wait + Clock + Net<Listener = TcpListener, Stream = TcpStream> + Sync>(
+    rt: &R,
+    alloc: Global,
+) -> bool {
+    match of_one_bank(alloc) {
+        Some(disk) => is_served(rt, alloc, disk, true, REFUSED),
+        None => false,
+    }
+}
+
 /// Without its other bank an archive refuses checkpoints by NotCatalogue. All else goes on.
 #[test]
 fn a_server_whose_checkpoints_are_refused(rt: HostRuntime) -> Result<(), Fail> {
-    let disk = of_one_bank(rt.alloc()).ok_or("made")?;
-    assert!(rt; is_served(&rt, rt.alloc(), disk, true, REFUSED));
+    assert!(rt; is_refused(&rt, rt.alloc()));
     Ok(())
 }
 

@@ -222,17 +222,37 @@ impl Client {
         alloc: Global,
         session_id: u8,
     ) -> Result<bool, AllocError> {
-        let start = format!(in alloc; "start 1001 {session_id} 42 65536 1408 65536 0 1000 c")?;
-        let started = format!(in alloc; "started {session_id} {session_id}")?;
-        let positions = format!(in alloc; "positions {session_id}")?;
-        let stop = format!(in alloc; "stop {session_id} 5")?;
         Ok(
             self.casts(setup_of(session_id).as_slice())
-                && self.asks(alloc, start.as_str(), started.as_str())
+                && self.starts(alloc, session_id)?
                 && self.casts(hello_of(session_id).as_slice())
-                && self.awaits(rt, alloc, positions.as_str(), "positions 0 64 -1")
-                && self.asks(alloc, stop.as_str(), "stopped 64"),
+                && self.has_recorded(rt, alloc, session_id)?
+                && self.stops(alloc, session_id)?,
         )
+    }
+
+    /// Whether its recording is started, of its session id's number.
+    fn starts(&mut self, alloc: Global, session_id: u8) -> Result<bool, AllocError> {
+        let start = format!(in alloc; "start 1001 {session_id} 42 65536 1408 65536 0 1000 c")?;
+        let started = format!(in alloc; "started {session_id} {session_id}")?;
+        Ok(self.asks(alloc, start.as_str(), started.as_str()))
+    }
+
+    /// Whether its first message is recorded.
+    fn has_recorded<R: Clock>(
+        &mut self,
+        rt: &R,
+        alloc: Global,
+        session_id: u8,
+    ) -> Result<bool, AllocError> {
+        let positions = format!(in alloc; "positions {session_id}")?;
+        Ok(self.awaits(rt, alloc, positions.as_str(), "positions 0 64 -1"))
+    }
+
+    /// Whether it is stopped behind that.
+    fn stops(&mut self, alloc: Global, session_id: u8) -> Result<bool, AllocError> {
+        let stop = format!(in alloc; "stop {session_id} 5")?;
+        Ok(self.asks(alloc, stop.as_str(), "stopped 64"))
     }
 
     /// Whether the next datagram that comes is this one.

@@ -200,18 +200,17 @@ fn answered<R: Net<Listener = TcpListener, Stream = TcpStream>>(
     }
 }
 
-/// So many of them.
+/// Adds as many of them as there are places. Whether each is answered.
 fn all_answered<R: Net<Listener = TcpListener, Stream = TcpStream>>(
     rt: &R,
     alloc: Global,
     ports: Ports,
-    count: usize,
-) -> Option<Vec<Client>> {
-    let mut clients = Vec::new(alloc);
-    for _ in 0..count {
+    clients: &mut Vec<Client>,
+) -> Option<()> {
+    for _ in 0..PLACES {
         clients.push(answered(rt, alloc, ports)?).ok()?;
     }
-    Some(clients)
+    Some(())
 }
 
 /// Whether one client more waits until one of these leaves, while a client at the control port is answered.
@@ -220,7 +219,7 @@ fn is_last<R: Net<Listener = TcpListener, Stream = TcpStream>>(
     alloc: Global,
     ports: Ports,
     consumers: Ports,
-    mut clients: Vec<Client>,
+    clients: &mut Vec<Client>,
 ) -> bool {
     let Some(mut late) = Client::new(rt, alloc, consumers) else {
         return false;
@@ -250,10 +249,10 @@ fn waits<R: Net<Listener = TcpListener, Stream = TcpStream>>(
     ports: Ports,
     consumers: Ports,
 ) -> bool {
-    let is_right = match all_answered(rt, alloc, consumers, PLACES) {
-        Some(clients) => is_last(rt, alloc, ports, consumers, clients),
-        None => false,
-    };
+    let mut clients = Vec::new(alloc);
+    let is_right = all_answered(rt, alloc, consumers, &mut clients).is_some()
+        && is_last(rt, alloc, ports, consumers, &mut clients);
+    drop(clients);
     quits(rt, alloc, ports) && is_right
 }
 

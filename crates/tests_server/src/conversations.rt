@@ -14,14 +14,17 @@
 //!   ended the connection.
 
 use crate::client::{Client, Ports};
-use crate::serving::{Told, served};
+use crate::serving::{Told, converses, options, served, served_with};
+use crate::strict::not_a_catalogue;
 use crate::vectors::datagram;
-use disk_core::{Disk, FileId, MemoryDisk};
+use disk_core::MemoryDisk;
+use server::{SETTLE_EVERY, ServeOptions};
 use std::alloc::Global;
 use std::net::{Net, TcpListener, TcpStream};
 use std::rt::Clock;
+use std::sync::Wait;
 use std::test::Fail;
-use std::thread;
+use std::thread::{self, Threads};
 use std::time::Duration;
 use tool_core::{Unobserved, run_script};
 
@@ -154,30 +157,37 @@ awaits positions 0: positions 0 192 -1
 ";
 
 /// What a script of `positions 0`, a replay and a poll of a frame is answered then.
-pub(crate) const RECORDED: &str = "\
+const RECORDED: &str = "\
 positions 0 192 192
 replay 0
 frame 0 2500000000c001000000000007000000e90300002a000000000000000000000068656c6c6f
 more 64
 ";
 
-/// What such a script is answered over a disk.
-pub(crate) fn recorded(alloc: Global, disk: MemoryDisk) -> Result<Vec<u8>, Fail> {
+/// Whether such a script is answered so over a disk.
+fn is_recorded(alloc: Global, disk: MemoryDisk) -> bool {
     let script = b"positions 0\nreplay 0 -1 -1\npoll 0 1\n".as_slice();
     let mut output = Vec::new(alloc);
     match run_script(alloc, script, &mut output, disk, &mut Unobserved) {
-        Ok(_) => Ok(output),
-        Err(_) => Err(Fail::new("the script ended early")),
+        Ok(_) => output.as_slice() == RECORDED.as_bytes(),
+        Err(_) => false,
+    }
+}
+
+/// Whether it is so once a new disk was served with these options while a conversation was held.
+pub(crate) fn records<
+    R: Threads + Wait + Clock + Net<Listener = TcpListener, Stream = TcpStream> + Sync,
+>(rt: &R, alloc: Global, options: ServeOptions<'_>, conversation: &str) -> bool {
+    match served_with(rt, alloc, MemoryDisk::new(alloc), options, conversation) {
+        Some(disk) => is_recorded(alloc, disk),
+        None => false,
     }
 }
 
 /// A lost datagram is asked for by a NAK. Once it came, all frames are recorded, and on the disk after `quit`.
 #[test]
 fn frames_are_recorded_behind_a_loss(rt: HostRuntime) -> Result<(), Fail> {
-    let disk = MemoryDisk::new(rt.alloc());
-    let disk = served(&rt, rt.alloc(), disk, 60, LOSS).ok_or("served")?;
-    let output = recorded(rt.alloc(), disk)?;
-    assert!(rt; output.as_slice() == RECORDED.as_bytes());
+    assert!(rt; records(&rt, rt.alloc(), options(60, SETTLE_EVERY), LOSS));
     Ok(())
 }
 
@@ -204,9 +214,7 @@ asks positions 0: positions 64 64 -1
 /// nothing.
 #[test]
 fn an_image_waits_for_its_session(rt: HostRuntime) -> Result<(), Fail> {
-    let disk = MemoryDisk::new(rt.alloc());
-    served(&rt, rt.alloc(), disk, 60, EARLY).ok_or("served")?;
-    Ok(())
+    converses(&rt, rt.alloc(), options(60, SETTLE_EVERY), EARLY)
 }
 
 /// A client writes what the image has too: the image is lost, and the session goes on.
@@ -227,9 +235,7 @@ asks positions 0: positions 0 128 -1
 /// takes nothing away.
 #[test]
 fn a_refused_block_takes_the_image_away(rt: HostRuntime) -> Result<(), Fail> {
-    let disk = MemoryDisk::new(rt.alloc());
-    served(&rt, rt.alloc(), disk, 60, RIVAL).ok_or("served")?;
-    Ok(())
+    converses(&rt, rt.alloc(), options(60, SETTLE_EVERY), RIVAL)
 }
 
 /// Lines that are none here, one in pieces, two that are cut off, and a client that says nothing while another waits, which is
@@ -253,9 +259,7 @@ ends";
 /// that is idle leaves its place to one that waits.
 #[test]
 fn each_client_is_served(rt: HostRuntime) -> Result<(), Fail> {
-    let disk = MemoryDisk::new(rt.alloc());
-    served(&rt, rt.alloc(), disk, 1, CLIENTS).ok_or("served")?;
-    Ok(())
+    converses(&rt, rt.alloc(), options(1, SETTLE_EVERY), CLIENTS)
 }
 
 /// Clients one after another: a merge that one of them began is there for the next.
@@ -269,9 +273,7 @@ asks merge-state: merged no 64";
 /// A merge that one connection began goes on in the next one, if one client is served at a time.
 #[test]
 fn a_merge_goes_on_in_the_next_connection(rt: HostRuntime) -> Result<(), Fail> {
-    let disk = MemoryDisk::new(rt.alloc());
-    served(&rt, rt.alloc(), disk, 60, MERGING).ok_or("served")?;
-    Ok(())
+    converses(&rt, rt.alloc(), options(60, SETTLE_EVERY), MERGING)
 }
 
 /// Lines where no archive is open.
@@ -287,9 +289,8 @@ asks merge 42 65536 0: merge 0
 /// Without an open archive lines that need it are Broken. Merges and NAKs go on.
 #[test]
 fn lines_are_broken_where_no_archive_is_open(rt: HostRuntime) -> Result<(), Fail> {
-    let mut disk = MemoryDisk::new(rt.alloc());
-    disk.write_at(FileId::BankA, 0, b"none")?;
-    served(&rt, rt.alloc(), disk, 60, UNOPENED).ok_or("served")?;
+    let disk = not_a_catalogue(rt.alloc());
+    assert!(rt; served(&rt, rt.alloc(), disk, 60, UNOPENED).is_some());
     Ok(())
 }
 
@@ -307,7 +308,5 @@ awaits positions 0: positions 65472 65600 -1
 /// Blocks of two segments that wait for their session are all recorded.
 #[test]
 fn a_batch_goes_over_a_segment(rt: HostRuntime) -> Result<(), Fail> {
-    let disk = MemoryDisk::new(rt.alloc());
-    served(&rt, rt.alloc(), disk, 60, TWO_SEGMENTS).ok_or("served")?;
-    Ok(())
+    converses(&rt, rt.alloc(), options(60, SETTLE_EVERY), TWO_SEGMENTS)
 }

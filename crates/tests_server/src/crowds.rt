@@ -1,7 +1,7 @@
 //! Several clients at a time: docs/SERVING.md, "Control lines".
 
 use crate::client::{Client, Ports};
-use crate::serving::{bound, options, served_with};
+use crate::serving::{bound, converses, options};
 use disk_core::MemoryDisk;
 use server::{SETTLE_EVERY, ServeOptions, Unreported, serve_with};
 use std::alloc::Global;
@@ -57,19 +57,17 @@ fn does<R: Threads + Clock + Net<Listener = TcpListener, Stream = TcpStream> + S
     ports: Ports,
     crowd: Crowd,
 ) -> bool {
-    let Some(first) = Client::new(rt, alloc, ports) else {
-        return false;
-    };
-    let Some(second) = Client::new(rt, alloc, ports) else {
-        return false;
-    };
-    let Some(third) = Client::new(rt, alloc, ports) else {
-        return false;
-    };
-    match crowd {
-        Crowd::Polls => polls(rt, alloc, ports, first, second, third),
-        Crowd::Idles => idles(rt, alloc, first, second, third),
-        Crowd::Waits => waits(alloc, first, second, third),
+    match (
+        Client::new(rt, alloc, ports),
+        Client::new(rt, alloc, ports),
+        Client::new(rt, alloc, ports),
+    ) {
+        (Some(first), Some(second), Some(third)) => match crowd {
+            Crowd::Polls => polls(rt, alloc, ports, first, second, third),
+            Crowd::Idles => idles(rt, alloc, first, second, third),
+            Crowd::Waits => waits(alloc, first, second, third),
+        },
+        _ => false,
     }
 }
 
@@ -202,9 +200,7 @@ asks poll 0 1: more 0";
 #[test]
 fn what_a_connection_leaves(rt: HostRuntime) -> Result<(), Fail> {
     for (clients, conversation) in [(Some(1), ALONE), (Some(2), BESIDE), (None, LEFT)] {
-        let disk = MemoryDisk::new(rt.alloc());
-        let options = for_clients(60, clients);
-        served_with(&rt, rt.alloc(), disk, options, conversation).ok_or("served")?;
+        converses(&rt, rt.alloc(), for_clients(60, clients), conversation)?;
     }
     Ok(())
 }

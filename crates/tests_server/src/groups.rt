@@ -147,6 +147,18 @@ fn served_slowly<
     if is_right { Some(disk) } else { None }
 }
 
+/// Whether such a server leaves both frames of both recordings.
+fn is_whole<R: Threads + Wait + Clock + Net<Listener = TcpListener, Stream = TcpStream> + Sync>(
+    rt: &R,
+    alloc: Global,
+    flushes: &Flushes,
+) -> bool {
+    match served_slowly(rt, alloc, flushes) {
+        Some(disk) => has_all(alloc, disk),
+        None => false,
+    }
+}
+
 /// Whether both recordings of a disk have both frames, by two entries of each session next to the starts.
 fn has_all(alloc: Global, disk: MemoryDisk) -> bool {
     match Engine::open(alloc, disk) {
@@ -179,8 +191,7 @@ fn unused(fails: bool) -> Flushes {
 #[test]
 fn files_are_flushed_before_a_group_settles(rt: HostRuntime) -> Result<(), Fail> {
     let flushes = unused(false);
-    let disk = served_slowly(&rt, rt.alloc(), &flushes).ok_or("served")?;
-    assert!(rt; has_all(rt.alloc(), disk));
+    assert!(rt; is_whole(&rt, rt.alloc(), &flushes));
     assert!(rt; flushes.files.load(Ordering::SeqCst) == 2);
     assert!(rt; flushes.failures.load(Ordering::SeqCst) == 0);
     Ok(())
@@ -190,8 +201,7 @@ fn files_are_flushed_before_a_group_settles(rt: HostRuntime) -> Result<(), Fail>
 #[test]
 fn a_failed_flush_changes_nothing_else(rt: HostRuntime) -> Result<(), Fail> {
     let flushes = unused(true);
-    let disk = served_slowly(&rt, rt.alloc(), &flushes).ok_or("served")?;
-    assert!(rt; has_all(rt.alloc(), disk));
+    assert!(rt; is_whole(&rt, rt.alloc(), &flushes));
     assert!(rt; flushes.failures.load(Ordering::SeqCst) == 1);
     Ok(())
 }

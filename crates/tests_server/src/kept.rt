@@ -3,7 +3,11 @@
 use crate::serving::served;
 use disk_core::MemoryDisk;
 use std::alloc::Global;
+use std::net::{Net, TcpListener, TcpStream};
+use std::rt::Clock;
+use std::sync::Wait;
 use std::test::Fail;
+use std::thread::Threads;
 use tool_core::{Unobserved, run_script};
 
 /// Two recordings of a frame each, which are stopped.
@@ -68,13 +72,24 @@ fn answered(alloc: Global, disk: MemoryDisk, script: &str, answers: &str) -> Opt
     }
 }
 
+/// A disk with two recordings that are there.
+fn made(alloc: Global) -> Option<MemoryDisk> {
+    let disk = answered(alloc, MemoryDisk::new(alloc), MADE, MADE_SO)?;
+    answered(alloc, disk, LOOK, SEEN)
+}
+
+/// The same disk behind a server, if they are still there.
+fn kept<R: Threads + Wait + Clock + Net<Listener = TcpListener, Stream = TcpStream> + Sync>(
+    rt: &R,
+    alloc: Global,
+) -> Option<MemoryDisk> {
+    let disk = served(rt, alloc, made(alloc)?, 60, LISTED)?;
+    answered(alloc, disk, LOOK, SEEN)
+}
+
 /// A server whose client only lists leaves all recordings and frames as they were.
 #[test]
 fn a_server_keeps_what_nobody_asks_to_change(rt: HostRuntime) -> Result<(), Fail> {
-    let alloc = rt.alloc();
-    let disk = answered(alloc, MemoryDisk::new(alloc), MADE, MADE_SO).ok_or("made")?;
-    let disk = answered(alloc, disk, LOOK, SEEN).ok_or("before")?;
-    let disk = served(&rt, alloc, disk, 60, LISTED).ok_or("served")?;
-    answered(alloc, disk, LOOK, SEEN).ok_or("after")?;
+    assert!(rt; kept(&rt, rt.alloc()).is_some());
     Ok(())
 }

@@ -2,8 +2,7 @@
 //! end".
 
 use crate::receivers::receiver;
-use crate::serving::served_with;
-use disk_core::MemoryDisk;
+use crate::serving::converses;
 use std::test::Fail;
 
 /// After `stop` and `extend` a sender that goes back to the stop position is recorded on, by a new image. One that does not joins
@@ -33,9 +32,7 @@ follows end 1
 /// With `--aeron` `stop` frees the image's place. `extend` takes a new image at the stop position, and one further on waits.
 #[test]
 fn an_extended_recording_takes_a_new_image(rt: HostRuntime) -> Result<(), Fail> {
-    let disk = MemoryDisk::new(rt.alloc());
-    served_with(&rt, rt.alloc(), disk, receiver(), STOPPED).ok_or("served")?;
-    Ok(())
+    converses(&rt, rt.alloc(), receiver(), STOPPED)
 }
 
 /// An image leaves that was silent for ten seconds. Its session stays open, and takes the next one that joins where the recording
@@ -64,9 +61,7 @@ follows end 1
 /// its recording stands.
 #[test]
 fn a_silent_image_leaves(rt: HostRuntime) -> Result<(), Fail> {
-    let disk = MemoryDisk::new(rt.alloc());
-    served_with(&rt, rt.alloc(), disk, receiver(), SILENT).ok_or("served")?;
-    Ok(())
+    converses(&rt, rt.alloc(), receiver(), SILENT)
 }
 
 /// More publications than there are places and seats.
@@ -79,7 +74,5 @@ asks images: end 0
 /// 200 publications are recorded one after another, with 64 places of images.
 #[test]
 fn more_publications_are_recorded_than_there_are_places(rt: HostRuntime) -> Result<(), Fail> {
-    let disk = MemoryDisk::new(rt.alloc());
-    served_with(&rt, rt.alloc(), disk, receiver(), MANY).ok_or("served")?;
-    Ok(())
+    converses(&rt, rt.alloc(), receiver(), MANY)
 }

@@ -280,11 +280,17 @@ fn a_server_is_not_measured_unasked(rt: HostRuntime) -> Result<(), Fail> {
     Ok(())
 }
 
+/// What it told where the disk fails.
+fn measured_broken<
+    R: Threads + Wait + Clock + Net<Listener = TcpListener, Stream = TcpStream> + Sync,
+>(rt: &R, alloc: Global) -> Option<Outcome> {
+    measured(rt, alloc, failing(alloc)?, true, FAULTS)
+}
+
 /// After a device fault the measures say that the archive is broken.
 #[test]
 fn a_broken_archive_is_measured(rt: HostRuntime) -> Result<(), Fail> {
-    let disk = failing(rt.alloc()).ok_or("disk")?;
-    let told = measured(&rt, rt.alloc(), disk, true, FAULTS);
+    let told = measured_broken(&rt, rt.alloc());
     assert!(rt; told == told_as(false, true, true));
     Ok(())
 }

@@ -1,7 +1,7 @@
 //! Which replays are open: docs/SERVING.md, "Which replays are open".
 
 use crate::client::{Client, Ports};
-use crate::serving::{bound, options, served_with};
+use crate::serving::{bound, converses, options};
 use disk_core::MemoryDisk;
 use server::{ClientNews, Happening, Reporter, SETTLE_EVERY, serve_with};
 use std::alloc::{AllocError, Global};
@@ -86,27 +86,44 @@ fn are_answered(alloc: Global, client: &mut Client, lines: &[(&str, &str)]) -> b
 }
 
 /// One client replays a recording, and another one sees where it is.
-fn are_seen(alloc: Global, mut reader: Client, mut other: Client) -> Result<bool, AllocError> {
-    let Some(address) = reader.address() else {
-        return Ok(false);
-    };
-    let is_begun = lists(alloc, &mut other, &[], address)?
-        && are_answered(alloc, &mut reader, RECORDED.as_slice())
+fn are_seen(
+    alloc: Global,
+    reader: &mut Client,
+    other: &mut Client,
+    address: SocketAddr,
+) -> Result<bool, AllocError> {
+    let is_begun = lists(alloc, other, &[], address)?
+        && are_answered(alloc, reader, RECORDED.as_slice())
         && reader.asks(alloc, "replay 0 0 64", "replay 0")
         && reader.asks(alloc, "replay 0 -1 -1", "replay 1");
     let both = ["open 0 0 0 64 line", "open 1 0 -1 -1 line"];
-    let is_seen = is_begun && lists(alloc, &mut other, &both, address)?;
+    let is_seen = is_begun && lists(alloc, other, &both, address)?;
     let is_polled = is_seen
         && reader.asks(alloc, "poll 1 10", FRAME)
         && reader.hears(alloc, "more 64")
         && reader.asks(alloc, "poll 0 10", FRAME)
         && reader.hears(alloc, "done");
     let both = ["open 0 0 64 64 line", "open 1 0 64 -1 line"];
-    let is_seen = is_polled && lists(alloc, &mut other, &both, address)?;
+    let is_seen = is_polled && lists(alloc, other, &both, address)?;
     let is_closed = is_seen
-        && are_answered(alloc, &mut other, REMOVES.as_slice())
+        && are_answered(alloc, other, REMOVES.as_slice())
         && other.asks(alloc, "close 0", "closed");
-    Ok(is_closed && lists(alloc, &mut other, &["open 1 0 64 -1 line"], address)?)
+    Ok(is_closed && lists(alloc, other, &["open 1 0 64 -1 line"], address)?)
+}
+
+/// Whether that is so of two clients, whose connections end then.
+fn is_seen<R: Net<Listener = TcpListener, Stream = TcpStream>>(
+    rt: &R,
+    alloc: Global,
+    ports: Ports,
+) -> bool {
+    match (Client::new(rt, alloc, ports), Client::new(rt, alloc, ports)) {
+        (Some(mut reader), Some(mut other)) => match reader.address() {
+            Some(address) => are_seen(alloc, &mut reader, &mut other, address) == Ok(true),
+            None => false,
+        },
+        _ => false,
+    }
 }
 
 /// Serves two clients at a time while one replays. Whether the other one sees it, whether none is open after the end of the first
@@ -153,9 +170,7 @@ fn looks<R: Clock + Net<Listener = TcpListener, Stream = TcpStream>>(
     alloc: Global,
     ports: Ports,
 ) -> Option<(bool, bool)> {
-    let reader = Client::new(rt, alloc, ports)?;
-    let other = Client::new(rt, alloc, ports)?;
-    let is_right = are_seen(alloc, reader, other) == Ok(true);
+    let is_right = is_seen(rt, alloc, ports);
     let mut last = Client::new(rt, alloc, ports)?;
     let is_left = awaits_none(rt, alloc, &mut last);
     if last.asks(alloc, "quit", "bye") {
@@ -182,10 +197,9 @@ asks replays: error 22 BadLine
 #[test]
 fn the_line_of_open_replays(rt: HostRuntime) -> Result<(), Fail> {
     for (window, answer) in [(None, ALONE), (Some(131_072), "asks replays: end 0\n")] {
-        let disk = MemoryDisk::new(rt.alloc());
         let mut options = options(60, SETTLE_EVERY);
         options.window = window;
-        served_with(&rt, rt.alloc(), disk, options, answer).ok_or("served")?;
+        converses(&rt, rt.alloc(), options, answer)?;
     }
     Ok(())
 }

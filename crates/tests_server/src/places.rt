@@ -3,8 +3,7 @@
 
 use crate::receivers::receiver;
 use crate::recorded::recorder;
-use crate::serving::served_with;
-use disk_core::MemoryDisk;
+use crate::serving::converses;
 use server::{Network, Networks};
 use std::test::Fail;
 
@@ -38,9 +37,7 @@ follows end 1
 /// An image takes the frames of its sender's address alone, until that is silent and another one sets it up.
 #[test]
 fn an_image_takes_frames_of_its_sender(rt: HostRuntime) -> Result<(), Fail> {
-    let disk = MemoryDisk::new(rt.alloc());
-    served_with(&rt, rt.alloc(), disk, receiver(), MOVED).ok_or("served")?;
-    Ok(())
+    converses(&rt, rt.alloc(), receiver(), MOVED)
 }
 
 /// Frames from a second socket don't keep an image.
@@ -60,9 +57,7 @@ asks images: end 0
 /// An image whose sender is silent leaves, also while frames come from another address.
 #[test]
 fn strangers_do_not_keep_an_image(rt: HostRuntime) -> Result<(), Fail> {
-    let disk = MemoryDisk::new(rt.alloc());
-    served_with(&rt, rt.alloc(), disk, receiver(), STRANGERS).ok_or("served")?;
-    Ok(())
+    converses(&rt, rt.alloc(), receiver(), STRANGERS)
 }
 
 /// A setup frame makes no recording, and admits one frame. The first one makes it, and the window is whole at once.
@@ -82,9 +77,7 @@ asks positions 1: error 1 UnknownRecording
 /// A recording that nobody asked for begins with the first frame.
 #[test]
 fn a_recording_begins_with_its_first_frame(rt: HostRuntime) -> Result<(), Fail> {
-    let disk = MemoryDisk::new(rt.alloc());
-    served_with(&rt, rt.alloc(), disk, recorder(&[1_001]), FIRST_FRAME).ok_or("served")?;
-    Ok(())
+    converses(&rt, rt.alloc(), recorder(&[1_001]), FIRST_FRAME)
 }
 
 /// All places have publications that nobody records. One that is to be recorded gets a place at once.
@@ -101,9 +94,7 @@ asks images: image 64 7 1001 42 65536 1408 0 0
 /// A publication that is to be recorded waits for no other one.
 #[test]
 fn an_unwanted_image_yields_its_place(rt: HostRuntime) -> Result<(), Fail> {
-    let disk = MemoryDisk::new(rt.alloc());
-    served_with(&rt, rt.alloc(), disk, recorder(&[1_001]), YIELDED).ok_or("served")?;
-    Ok(())
+    converses(&rt, rt.alloc(), recorder(&[1_001]), YIELDED)
 }
 
 /// All places have publications that are recorded. One more gets none, and none of them yields.
@@ -122,9 +113,7 @@ asks positions 63: positions 0 64 -1
 /// An image that is recorded yields its place to nobody.
 #[test]
 fn a_recorded_image_keeps_its_place(rt: HostRuntime) -> Result<(), Fail> {
-    let disk = MemoryDisk::new(rt.alloc());
-    served_with(&rt, rt.alloc(), disk, recorder(&[1_001]), RECORDED).ok_or("served")?;
-    Ok(())
+    converses(&rt, rt.alloc(), recorder(&[1_001]), RECORDED)
 }
 
 /// What comes from a network that is not named makes no image.
@@ -152,12 +141,11 @@ fn datagrams_come_from_named_networks(rt: HostRuntime) -> Result<(), Fail> {
         (0x7e00_0000, 7, NAMED),
         (0x0000_0000, 0, NAMED),
     ] {
-        let disk = MemoryDisk::new(rt.alloc());
         let mut networks = Networks::new();
         networks.networks[15] = Some(Network { address, bits });
         let mut options = recorder(&[1_001]);
         options.networks = networks;
-        served_with(&rt, rt.alloc(), disk, options, conversation).ok_or("served")?;
+        converses(&rt, rt.alloc(), options, conversation)?;
     }
     Ok(())
 }

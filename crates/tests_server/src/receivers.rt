@@ -1,8 +1,7 @@
 //! Conversations with a server that is a receiver of the public standard: docs/PROTOCOL.md, "Status messages and NAKs of a
 //! receiver". Their words: `conversations`.
 
-use crate::serving::served_with;
-use disk_core::MemoryDisk;
+use crate::serving::converses;
 use server::ServeOptions;
 use std::test::Fail;
 
@@ -39,9 +38,7 @@ silence
 /// datagram.
 #[test]
 fn a_recorded_stream_gets_status_messages(rt: HostRuntime) -> Result<(), Fail> {
-    let disk = MemoryDisk::new(rt.alloc());
-    served_with(&rt, rt.alloc(), disk, receiver(), RECORDED).ok_or("served")?;
-    Ok(())
+    converses(&rt, rt.alloc(), receiver(), RECORDED)
 }
 
 /// A sender that was silent for ten seconds gets no status messages. Its image leaves, and it is asked for its setup frame.
@@ -62,9 +59,7 @@ receives-among STATUS_AT_64
 /// A sender that was silent for ten seconds gets none. It is asked for its setup frame when it goes on.
 #[test]
 fn a_silent_sender_gets_no_status_messages(rt: HostRuntime) -> Result<(), Fail> {
-    let disk = MemoryDisk::new(rt.alloc());
-    served_with(&rt, rt.alloc(), disk, receiver(), SILENT).ok_or("served")?;
-    Ok(())
+    converses(&rt, rt.alloc(), receiver(), SILENT)
 }
 
 /// What comes from another address is not the stream's.
@@ -82,9 +77,7 @@ receives-among STATUS_AT_64
 /// Status messages go to the address of the setup frame. Frames from another one are not recorded.
 #[test]
 fn another_address_gets_no_status_messages(rt: HostRuntime) -> Result<(), Fail> {
-    let disk = MemoryDisk::new(rt.alloc());
-    served_with(&rt, rt.alloc(), disk, receiver(), FORGED).ok_or("served")?;
-    Ok(())
+    converses(&rt, rt.alloc(), receiver(), FORGED)
 }
 
 /// A stream without an image is asked for a setup frame, once in 200 milliseconds. The line `images` shows the image.
@@ -107,9 +100,7 @@ follows end 1
 /// A stream without an image is asked for its setup frame, once in 200 milliseconds. `images` shows the image and its session.
 #[test]
 fn an_unknown_stream_is_asked_for_its_setup_frame(rt: HostRuntime) -> Result<(), Fail> {
-    let disk = MemoryDisk::new(rt.alloc());
-    served_with(&rt, rt.alloc(), disk, receiver(), ASKED).ok_or("served")?;
-    Ok(())
+    converses(&rt, rt.alloc(), receiver(), ASKED)
 }
 
 /// A pad that ends past the window is dropped, and asked for once the stream has come near.
@@ -128,7 +119,5 @@ awaits positions 0: positions 0 65536 -1
 /// A pad that ends past the window is dropped, asked for once the stream has come near, and recorded.
 #[test]
 fn a_pad_past_the_window_is_asked_for(rt: HostRuntime) -> Result<(), Fail> {
-    let disk = MemoryDisk::new(rt.alloc());
-    served_with(&rt, rt.alloc(), disk, receiver(), PAD).ok_or("served")?;
-    Ok(())
+    converses(&rt, rt.alloc(), receiver(), PAD)
 }

@@ -1,7 +1,6 @@
 //! Publications that a server records without being asked: docs/SERVING.md, "Recording without being asked".
 
-use crate::serving::served_with;
-use disk_core::MemoryDisk;
+use crate::serving::converses;
 use server::{IDLE_SECONDS, Networks, SEGMENT_LENGTH, SETTLE_EVERY, ServeOptions};
 use std::test::Fail;
 
@@ -56,9 +55,7 @@ follows end 1
 /// The first message of a stream of `--record` begins a recording. After `stop` and after silence the next one goes on with it.
 #[test]
 fn a_stream_is_recorded_without_being_asked(rt: HostRuntime) -> Result<(), Fail> {
-    let disk = MemoryDisk::new(rt.alloc());
-    served_with(&rt, rt.alloc(), disk, recorder(&[5, 1_001]), RECORDED).ok_or("served")?;
-    Ok(())
+    converses(&rt, rt.alloc(), recorder(&[5, 1_001]), RECORDED)
 }
 
 /// A client that was quicker keeps the publication. A stream that is not named is not recorded.
@@ -76,9 +73,7 @@ asks positions 1: error 1 UnknownRecording
 /// A publication for which a client sent `start` first is recorded by that session alone.
 #[test]
 fn a_client_that_was_quicker_keeps_its_publication(rt: HostRuntime) -> Result<(), Fail> {
-    let disk = MemoryDisk::new(rt.alloc());
-    served_with(&rt, rt.alloc(), disk, recorder(&[1_001]), QUICKER).ok_or("served")?;
-    Ok(())
+    converses(&rt, rt.alloc(), recorder(&[1_001]), QUICKER)
 }
 
 /// A stream that is not named.
@@ -93,9 +88,7 @@ asks positions 0: error 1 UnknownRecording
 /// A stream that `--record` does not name gets an image and no recording.
 #[test]
 fn another_stream_is_not_recorded(rt: HostRuntime) -> Result<(), Fail> {
-    let disk = MemoryDisk::new(rt.alloc());
-    served_with(&rt, rt.alloc(), disk, recorder(&[1_002]), OTHER).ok_or("served")?;
-    Ok(())
+    converses(&rt, rt.alloc(), recorder(&[1_002]), OTHER)
 }
 
 /// 64 publications begin so many recordings. One more begins 15 seconds after the first of them.
@@ -118,7 +111,5 @@ awaits positions 64: positions 0 64 -1
 /// 64 publications begin 64 recordings at once. One more begins 15 seconds after the first.
 #[test]
 fn at_most_64_recordings_begin_in_a_short_time(rt: HostRuntime) -> Result<(), Fail> {
-    let disk = MemoryDisk::new(rt.alloc());
-    served_with(&rt, rt.alloc(), disk, recorder(&[1_001]), MANY).ok_or("served")?;
-    Ok(())
+    converses(&rt, rt.alloc(), recorder(&[1_001]), MANY)
 }

@@ -303,16 +303,29 @@ fn is_refused(
             return Some(false);
         }
     }
-    let own = format!(in alloc; "send 0 0 -1 {}", ports.receive).ok()?;
-    let unknown = format!(in alloc; "send 9 0 -1 {address}").ok()?;
-    let inside = format!(in alloc; "send 0 32 -1 {address}").ok()?;
-    let backwards = format!(in alloc; "send 0 0 -2 {address}").ok()?;
     Some(
-        client.asks(alloc, own.as_str(), "error 22 BadLine")
-            && client.asks(alloc, unknown.as_str(), "error 1 UnknownRecording")
-            && client.asks(alloc, inside.as_str(), "error 5 BadPosition")
-            && client.asks(alloc, backwards.as_str(), "error 10 BadParameter"),
+        is_refused_by(alloc, client, ("0 0 -1", ports.receive), "error 22 BadLine")?
+            && is_refused_by(
+                alloc,
+                client,
+                ("9 0 -1", address),
+                "error 1 UnknownRecording",
+            )?
+            && is_refused_by(alloc, client, ("0 32 -1", address), "error 5 BadPosition")?
+            && is_refused_by(alloc, client, ("0 0 -2", address), "error 10 BadParameter")?,
     )
+}
+
+/// Whether what is to be sent to an address is refused so.
+fn is_refused_by(
+    alloc: Global,
+    client: &mut Client,
+    sent: (&str, SocketAddr),
+    answer: &str,
+) -> Option<bool> {
+    let (what, address) = sent;
+    let line = format!(in alloc; "send {what} {address}").ok()?;
+    Some(client.asks(alloc, line.as_str(), answer))
 }
 
 /// A recording is sent byte for byte up to a bound, and then comes the end of the stream, three times.

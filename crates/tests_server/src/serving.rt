@@ -2,7 +2,7 @@
 
 use crate::client::{Client, Ports};
 use crate::conversations::holds;
-use disk_core::Disk;
+use disk_core::{Disk, MemoryDisk};
 use server::{
     Ends, Flusher, Happening, Openings, Reporter, SETTLE_EVERY, ServeOptions, SessionNews,
     Unreported, serve_flushing, serve_with,
@@ -12,6 +12,7 @@ use std::net::{Net, TcpListener, TcpStream, UdpSocket};
 use std::rt::Clock;
 use std::sync::Wait;
 use std::sync::atomic::{AtomicU32, Ordering};
+use std::test::Fail;
 use std::thread::{self, Threads};
 use std::time::Duration;
 
@@ -126,6 +127,16 @@ pub(crate) fn disk_flushed<
     ) {
         Ok(served) => Some(served.disk),
         Err(_) => None,
+    }
+}
+
+/// Serves a new disk as `served_with`: all has to be answered so.
+pub(crate) fn converses<
+    R: Threads + Wait + Clock + Net<Listener = TcpListener, Stream = TcpStream> + Sync,
+>(rt: &R, alloc: Global, options: ServeOptions<'_>, conversation: &str) -> Result<(), Fail> {
+    match served_with(rt, alloc, MemoryDisk::new(alloc), options, conversation) {
+        Some(_) => Ok(()),
+        None => Err(Fail::from("served")),
     }
 }
 

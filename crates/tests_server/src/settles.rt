@@ -1,6 +1,6 @@
 //! When a server settles what it wrote: docs/SERVING.md, "When a frame is durable".
 
-use crate::conversations::{RECORDED, recorded};
+use crate::conversations::records;
 use crate::serving::{options, served_with};
 use disk_core::MemoryDisk;
 use engine_core::Engine;
@@ -14,29 +14,26 @@ use std::thread::Threads;
 /// Milliseconds that no test lasts.
 const LONG: u64 = 600_000;
 
-/// Serves an archive in memory while a conversation is held; a block waits for so many milliseconds at most. The disk, where
-/// all was answered as it has to be.
-fn settled<R: Threads + Wait + Clock + Net<Listener = TcpListener, Stream = TcpStream> + Sync>(
-    rt: &R,
-    alloc: Global,
-    settle_every: u64,
-    conversation: &str,
-) -> Option<MemoryDisk> {
-    let disk = MemoryDisk::new(alloc);
-    served_with(rt, alloc, disk, options(60, settle_every), conversation)
+/// How many entries the history of the archive of a disk has.
+fn entries_of(alloc: Global, disk: MemoryDisk) -> Option<u64> {
+    match Engine::open(alloc, disk) {
+        Ok((engine, _)) => Some(engine.desk().counted()),
+        Err(_) => None,
+    }
 }
 
-/// How many entries the history of the archive of such a conversation has.
+/// The same of an archive in memory that was served while a conversation was held; a block waits for so many milliseconds at most.
+/// None if it was answered otherwise.
 fn entries<R: Threads + Wait + Clock + Net<Listener = TcpListener, Stream = TcpStream> + Sync>(
     rt: &R,
     alloc: Global,
     settle_every: u64,
     conversation: &str,
 ) -> Option<u64> {
-    let disk = settled(rt, alloc, settle_every, conversation)?;
-    match Engine::open(alloc, disk) {
-        Ok((engine, _)) => Some(engine.desk().counted()),
-        Err(_) => None,
+    let options = options(60, settle_every);
+    match served_with(rt, alloc, MemoryDisk::new(alloc), options, conversation) {
+        Some(disk) => entries_of(alloc, disk),
+        None => None,
     }
 }
 
@@ -162,8 +159,6 @@ rests
 /// What was written and not settled is recorded when the server ends.
 #[test]
 fn all_sessions_settle_at_the_end(rt: HostRuntime) -> Result<(), Fail> {
-    let disk = settled(&rt, rt.alloc(), LONG, ENDED).ok_or("served")?;
-    let output = recorded(rt.alloc(), disk)?;
-    assert!(rt; output.as_slice() == RECORDED.as_bytes());
+    assert!(rt; records(&rt, rt.alloc(), options(60, LONG), ENDED));
     Ok(())
 }

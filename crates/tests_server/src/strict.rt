@@ -80,28 +80,27 @@ fn faults_and_quits<R: Net<Listener = TcpListener, Stream = TcpStream>>(
         && client.hears(alloc, "bye")
 }
 
-/// Why a server could record nothing; None too if it ended early, or something was answered otherwise.
+/// Why a strict server could record nothing; None too if it ended early, or something was answered otherwise.
 fn stop_of<R: Threads + Wait + Clock + Net<Listener = TcpListener, Stream = TcpStream> + Sync>(
     rt: &R,
     alloc: Global,
-    disk: MemoryDisk,
-    is_strict: bool,
+    disk: Option<MemoryDisk>,
     said: Said,
 ) -> Option<Stuck> {
-    served(rt, alloc, disk, is_strict, said)?.stop
+    served(rt, alloc, disk?, true, said)?.stop
 }
 
-/// Whether a server ended well, and does not say that it could record nothing.
-fn says_nothing<R: Threads + Wait + Clock + Net<Listener = TcpListener, Stream = TcpStream> + Sync>(
+/// The disk that another server leaves which could record, as far as it says.
+fn left_by<R: Threads + Wait + Clock + Net<Listener = TcpListener, Stream = TcpStream> + Sync>(
     rt: &R,
     alloc: Global,
-    disk: MemoryDisk,
-    is_strict: bool,
+    disk: Option<MemoryDisk>,
     said: Said,
-) -> bool {
-    match served(rt, alloc, disk, is_strict, said) {
-        Some(served) => served.stop.is_none(),
-        None => false,
+) -> Option<MemoryDisk> {
+    let served = served(rt, alloc, disk?, false, said)?;
+    match served.stop {
+        Some(_) => None,
+        None => Some(served.disk),
     }
 }
 
@@ -135,8 +134,8 @@ fn failing_after(alloc: Global, calls: u64) -> Option<MemoryDisk> {
 /// A strict server without an archive ends before any line, and says by which refusal.
 #[test]
 fn without_an_archive_it_ends(rt: HostRuntime) -> Result<(), Fail> {
-    let disk = not_a_catalogue(rt.alloc());
-    let stop = stop_of(&rt, rt.alloc(), disk, true, Said::Nothing);
+    let disk = Some(not_a_catalogue(rt.alloc()));
+    let stop = stop_of(&rt, rt.alloc(), disk, Said::Nothing);
     assert!(rt; stop == Some(Stuck::Unopened(Refusal::NotCatalogue)));
     Ok(())
 }
@@ -157,19 +156,18 @@ asks quit: bye
 /// A strict server ends after the call that broke its archive. Another one answers on, Broken.
 #[test]
 fn it_ends_by_a_device_fault(rt: HostRuntime) -> Result<(), Fail> {
-    let disk = failing(rt.alloc()).ok_or("disk")?;
-    let stop = stop_of(&rt, rt.alloc(), disk, true, Said::Conversation(FAULT));
+    let disk = failing(rt.alloc());
+    let stop = stop_of(&rt, rt.alloc(), disk, Said::Conversation(FAULT));
     assert!(rt; stop == Some(Stuck::Broken));
-    let disk = failing(rt.alloc()).ok_or("disk")?;
-    assert!(rt; says_nothing(&rt, rt.alloc(), disk, false, Said::Conversation(FAULTS)));
+    let disk = failing(rt.alloc());
+    assert!(rt; left_by(&rt, rt.alloc(), disk, Said::Conversation(FAULTS)).is_some());
     Ok(())
 }
 
 /// A strict server that quits with a broken archive says so too.
 #[test]
 fn a_quit_says_that_it_is_broken(rt: HostRuntime) -> Result<(), Fail> {
-    let disk = failing(rt.alloc()).ok_or("disk")?;
-    let stop = stop_of(&rt, rt.alloc(), disk, true, Said::FaultAndQuit);
+    let stop = stop_of(&rt, rt.alloc(), failing(rt.alloc()), Said::FaultAndQuit);
     assert!(rt; stop == Some(Stuck::Broken));
     Ok(())
 }
@@ -192,13 +190,12 @@ asks quit: bye
 /// A strict server ends after the last entry of its history, and at once if it is full. Another one answers on.
 #[test]
 fn it_ends_by_a_full_history(rt: HostRuntime) -> Result<(), Fail> {
-    let disk = of_limit(rt.alloc(), 2).ok_or("disk")?;
-    let stop = stop_of(&rt, rt.alloc(), disk, true, Said::Conversation(FULL));
+    let disk = of_limit(rt.alloc(), 2);
+    let stop = stop_of(&rt, rt.alloc(), disk, Said::Conversation(FULL));
     assert!(rt; stop == Some(Stuck::HistoryFull));
-    let disk = of_limit(rt.alloc(), 2).ok_or("disk")?;
-    let full = served(&rt, rt.alloc(), disk, false, Said::Conversation(FULL_ON)).ok_or("full")?;
-    assert!(rt; full.stop.is_none());
-    let stop = stop_of(&rt, rt.alloc(), full.disk, true, Said::Nothing);
+    let disk = of_limit(rt.alloc(), 2);
+    let full = left_by(&rt, rt.alloc(), disk, Said::Conversation(FULL_ON));
+    let stop = stop_of(&rt, rt.alloc(), full, Said::Nothing);
     assert!(rt; stop == Some(Stuck::HistoryFull));
     Ok(())
 }
@@ -214,8 +211,8 @@ ends
 /// A strict server ends after a settle that makes the last entry.
 #[test]
 fn it_ends_by_a_settling_too(rt: HostRuntime) -> Result<(), Fail> {
-    let disk = of_limit(rt.alloc(), 2).ok_or("disk")?;
-    let stop = stop_of(&rt, rt.alloc(), disk, true, Said::Conversation(SETTLED));
+    let disk = of_limit(rt.alloc(), 2);
+    let stop = stop_of(&rt, rt.alloc(), disk, Said::Conversation(SETTLED));
     assert!(rt; stop == Some(Stuck::HistoryFull));
     Ok(())
 }
@@ -223,8 +220,8 @@ fn it_ends_by_a_settling_too(rt: HostRuntime) -> Result<(), Fail> {
 /// A strict server ends after a block that the disk fails to write.
 #[test]
 fn it_ends_by_a_block_that_the_disk_fails(rt: HostRuntime) -> Result<(), Fail> {
-    let disk = failing_after(rt.alloc(), FAILS_AFTER_AN_ENTRY).ok_or("disk")?;
-    let stop = stop_of(&rt, rt.alloc(), disk, true, Said::Conversation(SETTLED));
+    let disk = failing_after(rt.alloc(), FAILS_AFTER_AN_ENTRY);
+    let stop = stop_of(&rt, rt.alloc(), disk, Said::Conversation(SETTLED));
     assert!(rt; stop == Some(Stuck::Broken));
     Ok(())
 }
