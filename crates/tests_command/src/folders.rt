@@ -6,6 +6,7 @@ use command_line::{ToolCommand, command_of};
 use disk_core::{Disk, FileId};
 use folder_commands::{Exit, Outlet, concluded, obeyed};
 use host_disk::HostDisk;
+use std::alloc::AllocError;
 use std::io::{self, Eprint, Read, Write};
 use std::net::{Net, TcpListener, TcpStream};
 use std::path::Path;
@@ -69,22 +70,60 @@ pub(crate) fn ends<
     Some((status, streams.awaited_came.get()))
 }
 
-/// A line, whose words stand between blanks, what its command writes, on standard error too if that is asked, and its status. Where
-/// `@` stands, the path of a folder comes. What else a line does: `obeys`.
-pub(crate) type Row<'a> = (&'a str, &'a str, &'a str, u8);
+/// What a command has to come to: its status, what it writes, and what standard error gets, if that is asked.
+#[derive(Clone, Copy)]
+struct Outcome<'a> {
+    status: u8,
+    told: &'a str,
+    error: &'a str,
+}
 
-/// What the command of a line writes has to be this, and its status that.
+/// The words of a line, and behind an arrow what they come to: the status, what is written, and behind a `!` what standard error
+/// gets. `;` stands for the end of a line.
+fn parts_of(line: &str) -> (&str, Outcome<'_>) {
+    let (words, rest) = line.split_once(" => ").unwrap_or((line, "0"));
+    let (rest, error) = rest.split_once(" ! ").unwrap_or((rest, ""));
+    let (status, told) = rest.split_once(' ').unwrap_or((rest, ""));
+    let status = status.parse::<u8>().unwrap_or(u8::MAX);
+    (
+        words,
+        Outcome {
+            status,
+            told,
+            error,
+        },
+    )
+}
+
+/// Whether the words of a command line come to that.
+fn is_met<
+    R: Threads + Wait + Clock + Eprint + Net<Listener = TcpListener, Stream = TcpStream> + Sync,
+>(net: &R, rt: HostRuntime, words: &[String], outcome: Outcome<'_>) -> Result<bool, AllocError> {
+    let told = outcome.told.replace(rt.alloc(), ';', "\n")?;
+    let error = outcome.error.replace(rt.alloc(), ';', "\n")?;
+    let mut out = Vec::new(rt.alloc());
+    Ok(match ends(net, rt, words, &mut out, error.as_str()) {
+        Some((status, came)) => {
+            status == outcome.status
+                && out.as_slice() == told.as_bytes()
+                && (came || error.is_empty())
+        }
+        None => false,
+    })
+}
+
+/// The command of a line has to come to what stands behind it; where `@` stands, the path of a folder comes.
 pub(crate) fn check<
     R: Threads + Wait + Clock + Eprint + Net<Listener = TcpListener, Stream = TcpStream> + Sync,
->(net: &R, rt: HostRuntime, folder: &str, row: &Row<'_>) -> Result<(), Fail> {
-    let (line, told, error, status) = *row;
-    let words = words_in(rt.alloc(), line, folder)?;
-    let mut out = Vec::new(rt.alloc());
-    let ended = ends(net, rt, words.as_slice(), &mut out, error);
-    let is_told = out.as_slice() == told.as_bytes();
-    match ended {
-        Some((found, came)) if found == status && is_told && (came || error.is_empty()) => Ok(()),
-        _ => Err(Fail::new(line)),
+>(net: &R, rt: HostRuntime, folder: &str, line: &str) -> Result<(), Fail> {
+    let (said, outcome) = parts_of(line);
+    let words = words_in(rt.alloc(), said, folder)?;
+    let is_met = is_met(net, rt, words.as_slice(), outcome);
+    drop(words);
+    if is_met? {
+        Ok(())
+    } else {
+        Err(Fail::new(line))
     }
 }
 
@@ -170,9 +209,9 @@ fn is_empty(rt: HostRuntime, folder: &str) -> Result<(), Fail> {
 /// The same as `check` while another opening has the folder.
 fn check_held<
     R: Threads + Wait + Clock + Eprint + Net<Listener = TcpListener, Stream = TcpStream> + Sync,
->(net: &R, rt: HostRuntime, folder: &str, row: &Row<'_>) -> Result<(), Fail> {
+>(net: &R, rt: HostRuntime, folder: &str, line: &str) -> Result<(), Fail> {
     let held = disk_of(rt, folder)?;
-    let checked = check(net, rt, folder, row);
+    let checked = check(net, rt, folder, line);
     drop(held);
     checked
 }
@@ -182,8 +221,7 @@ fn check_held<
 /// checked while another opening has the folder, each other one without.
 fn obeys<
     R: Threads + Wait + Clock + Eprint + Net<Listener = TcpListener, Stream = TcpStream> + Sync,
->(net: &R, rt: HostRuntime, folder: &str, row: &Row<'_>) -> Result<(), Fail> {
-    let (line, told, error, status) = *row;
+>(net: &R, rt: HostRuntime, folder: &str, line: &str) -> Result<(), Fail> {
     let (word, rest) = line.split_once(' ').unwrap_or((line, ""));
     match word {
         "record" => record(rt, folder),
@@ -194,17 +232,17 @@ fn obeys<
         "remove" => remove(rt, folder, rest),
         "empty" => is_empty(rt, folder),
         "mkdir" => make(rt, folder, rest),
-        "held" => check_held(net, rt, folder, &(rest, told, error, status)),
-        _ => check(net, rt, folder, row),
+        "held" => check_held(net, rt, folder, rest),
+        _ => check(net, rt, folder, line),
     }
 }
 
-/// Obeys each line of a table in a folder.
+/// Obeys each line of a script in a folder.
 pub(crate) fn obeys_each<
     R: Threads + Wait + Clock + Eprint + Net<Listener = TcpListener, Stream = TcpStream> + Sync,
->(net: &R, rt: HostRuntime, folder: &str, rows: &[Row<'_>]) -> Result<(), Fail> {
-    for row in rows {
-        obeys(net, rt, folder, row)?;
+>(net: &R, rt: HostRuntime, folder: &str, script: &str) -> Result<(), Fail> {
+    for line in script.lines() {
+        obeys(net, rt, folder, line)?;
     }
     Ok(())
 }
@@ -212,63 +250,64 @@ pub(crate) fn obeys_each<
 /// The same in a folder of its own, which is not there before and after.
 pub(crate) fn plays<
     R: Threads + Wait + Clock + Eprint + Net<Listener = TcpListener, Stream = TcpStream> + Sync,
->(net: &R, rt: HostRuntime, test: &str, rows: &[Row<'_>]) -> Result<(), Fail> {
+>(net: &R, rt: HostRuntime, test: &str, script: &str) -> Result<(), Fail> {
     let path = unused(rt, test)?;
-    let obeyed = obeys_each(net, rt, path.as_str(), rows);
+    let obeyed = obeys_each(net, rt, path.as_str(), script);
     let emptied = emptied(rt, path.as_str());
     drop(path);
     obeyed?;
     Ok(emptied?)
 }
 
+const WHOLE: &str = "\
+create @ --history 16 => 0 created;
+create @ --history 16 => 1
+list @ => 0 end 0;
+verify @ => 0
+record
+list @ => 0 recording 0 1000 -1 0 64 42 131072 65536 1408 7 1001 c;end 1;
+verify @ => 0 verified 1;
+frames @/0-0.rec => 0 frame 42 0 1 37 c0;end 1;
+";
+
 /// What one command made and another recorded in a folder, later commands list, verify and print as frames.
 #[test]
 fn an_archive_outlives_its_process(rt: HostRuntime) -> Result<(), Fail> {
-    let listed = "recording 0 1000 -1 0 64 42 131072 65536 1408 7 1001 c\nend 1\n";
-    let rows = [
-        ("create @ --history 16", "created\n", "", 0),
-        ("create @ --history 16", "", "", 1),
-        ("list @", "end 0\n", "", 0),
-        ("verify @", "", "", 0),
-        ("record", "", "", 0),
-        ("list @", listed, "", 0),
-        ("verify @", "verified 1\n", "", 0),
-        ("frames @/0-0.rec", "frame 42 0 1 37 c0\nend 1\n", "", 0),
-    ];
-    plays(&rt, rt, "whole", &rows)
+    plays(&rt, rt, "whole", WHOLE)
 }
+
+const LOOKED_AT: &str = "\
+create @ --history 16 => 0 created;
+record
+held list @ --read-only => 0 recording 0 1000 -1 0 -1 42 131072 65536 1408 7 1001 c;end 1;
+held verify @ --read-only => 0 verified 1;
+held list @ --read-only => 0 recording 0 1000 -1 0 -1 42 131072 65536 1408 7 1001 c;end 1;
+held list @ => 3
+";
 
 /// `list` and `verify` with `--read-only` leave a recording active. They work while another opening has the folder, and `list`
 /// does not.
 #[test]
 fn looking_stops_no_recording(rt: HostRuntime) -> Result<(), Fail> {
-    let active = "recording 0 1000 -1 0 -1 42 131072 65536 1408 7 1001 c\nend 1\n";
-    let rows = [
-        ("create @ --history 16", "created\n", "", 0),
-        ("record", "", "", 0),
-        ("held list @ --read-only", active, "", 0),
-        ("held verify @ --read-only", "verified 1\n", "", 0),
-        ("held list @ --read-only", active, "", 0),
-        ("held list @", "", "", 3),
-    ];
-    plays(&rt, rt, "looked-at", &rows)
+    plays(&rt, rt, "looked-at", LOOKED_AT)
 }
+
+const FULL: &str = "\
+compact @ => 3
+create @ --history 2 => 0 created;
+record
+compact @ => 0 compacted;
+record-more
+verify @ => 0 verified 1;verified 1;
+held compact @ => 3
+remove catalogue-a.bank
+compact @ => 1
+";
 
 /// After `compact` a full history has room. It is refused if the folder is missing, in use, or without a bank A.
 #[test]
 fn a_full_history_is_compacted(rt: HostRuntime) -> Result<(), Fail> {
-    let rows = [
-        ("compact @", "", "", 3),
-        ("create @ --history 2", "created\n", "", 0),
-        ("record", "", "", 0),
-        ("compact @", "compacted\n", "", 0),
-        ("record-more", "", "", 0),
-        ("verify @", "verified 1\nverified 1\n", "", 0),
-        ("held compact @", "", "", 3),
-        ("remove catalogue-a.bank", "", "", 0),
-        ("compact @", "", "", 1),
-    ];
-    plays(&rt, rt, "full", &rows)
+    plays(&rt, rt, "full", FULL)
 }
 
 /// A file has to have so many bytes; none if it is not to be there.
@@ -291,21 +330,26 @@ fn has_file(rt: HostRuntime, folder: &str, name: &str, length: Option<u64>) -> R
     has_length(rt, file.as_str(), length)
 }
 
+const UNEXPORTED: &str = "\
+create @ --history 16 => 0 created;
+record
+export @ 1 --pcap @/../frames.pcap => 1
+export @ 0 --pcap @/0-0.rec => 1
+";
+
 /// An archive of a frame is exported into its own folder, and to a file beside that, which is there then.
 fn exports<
     R: Threads + Wait + Clock + Eprint + Net<Listener = TcpListener, Stream = TcpStream> + Sync,
 >(net: &R, rt: HostRuntime, folder: &str) -> Result<(), Fail> {
-    let rows = [
-        ("create @ --history 16", "created\n", "", 0),
-        ("record", "", "", 0),
-        ("export @ 1 --pcap @/../frames.pcap", "", "", 1),
-        ("export @ 0 --pcap @/0-0.rec", "", "", 1),
-    ];
-    obeys_each(net, rt, folder, &rows)?;
+    obeys_each(net, rt, folder, UNEXPORTED)?;
     has_file(rt, folder, "0-0.rec", Some(64))?;
     has_file(rt, folder, "../frames.pcap", None)?;
-    let row = ("export @ 0 --pcap @/../frames.pcap", "exported\n", "", 0);
-    check(net, rt, folder, &row)?;
+    check(
+        net,
+        rt,
+        folder,
+        "export @ 0 --pcap @/../frames.pcap => 0 exported;",
+    )?;
     has_file(rt, folder, "0-0.rec", Some(64))?;
     has_file(rt, folder, "../frames.pcap", Some(132))?;
     has_file(rt, folder, "../frames.pcap.part", None)
@@ -332,36 +376,38 @@ fn a_refused_export_leaves_no_file(rt: HostRuntime) -> Result<(), Fail> {
     Ok(emptied?)
 }
 
+const DAMAGED: &str = "\
+create @ --history 16 => 0 created;
+record
+damage
+verify @ => 3 error 15 Damaged 0 0;
+frames @/0-0.rec => 3 error 21 BadFrame 0;
+cut 40
+list @ => 3
+cut 31
+list @ => 1
+";
+
 /// `verify` and `frames` report a damaged frame by a line and status 3. `list` has status 3 over a damaged catalogue, and 1 over
 /// one that is cut too short.
 #[test]
 fn damage_in_a_folder_is_told(rt: HostRuntime) -> Result<(), Fail> {
-    let rows = [
-        ("create @ --history 16", "created\n", "", 0),
-        ("record", "", "", 0),
-        ("damage", "", "", 0),
-        ("verify @", "error 15 Damaged 0 0\n", "", 3),
-        ("frames @/0-0.rec", "error 21 BadFrame 0\n", "", 3),
-        ("cut 40", "", "", 0),
-        ("list @", "", "", 3),
-        ("cut 31", "", "", 0),
-        ("list @", "", "", 1),
-    ];
-    plays(&rt, rt, "damaged", &rows)
+    plays(&rt, rt, "damaged", DAMAGED)
 }
+
+const EMPTY: &str = "\
+list @ => 3
+frames @/0-0.rec => 3
+create @ --history 0 => 1
+list @ => 1
+verify @ => 1
+held list @ => 3
+";
 
 /// Commands over a missing folder or one in use end with status 3, and over a folder without an archive with status 1.
 #[test]
 fn folders_that_hold_no_archive(rt: HostRuntime) -> Result<(), Fail> {
-    let rows = [
-        ("list @", "", "", 3),
-        ("frames @/0-0.rec", "", "", 3),
-        ("create @ --history 0", "", "", 1),
-        ("list @", "", "", 1),
-        ("verify @", "", "", 1),
-        ("held list @", "", "", 3),
-    ];
-    plays(&rt, rt, "empty", &rows)
+    plays(&rt, rt, "empty", EMPTY)
 }
 
 /// Takes what is written, and cannot hand it on.

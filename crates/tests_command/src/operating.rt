@@ -12,48 +12,37 @@ use std::test::*;
 use std::thread::{self, Threads};
 use std::time::Duration;
 
-/// A page on one recording alone.
-const ONE: &str = "recording 1, active\n\
-    \x20 channel    c\n\
-    \x20 stream     1001\n\
-    \x20 session    7\n\
-    \x20 started    1970-01-01T00:00:01Z\n\
-    \x20 stopped    -\n\
-    \x20 positions  0 to 64\n\
-    \x20 recorded   64 bytes\n\
-    \x20 on disk    64 bytes in 1 segment files\n\
-    \x20 lengths    term 65536, segment 131072, MTU 1408\n\n";
+const ONE: &str = "\
+create @ --history 16 => 0 created;
+record
+record-more
+damage
+describe @ 1 => 0 recording 1, active;  channel    c;  stream     1001;  session    7;  started    1970-01-01T00:00:01Z;  stopped    -;  positions  0 to 64;  recorded   64 bytes;  on disk    64 bytes in 1 segment files;  lengths    term 65536, segment 131072, MTU 1408;;
+describe @ 2 => 1
+describe @ 2 --json => 1
+verify @ 0 --read-only => 3 error 15 Damaged 0 0;
+verify @ 1 --read-only => 0 verified 1;
+verify @ 2 --read-only => 1
+verify @ 0 => 3 error 15 Damaged 0 0;
+verify @ 1 => 0 verified 1;
+verify @ 2 => 1
+";
 
 /// `verify` and `describe` of one recording say nothing of a damaged other one. They are refused if the recording is not there.
 #[test]
 fn one_recording_alone(rt: HostRuntime) -> Result<(), Fail> {
-    let damaged = "error 15 Damaged 0 0\n";
-    let rows = [
-        ("create @ --history 16", "created\n", "", 0),
-        ("record", "", "", 0),
-        ("record-more", "", "", 0),
-        ("damage", "", "", 0),
-        ("describe @ 1", ONE, "", 0),
-        ("describe @ 2", "", "", 1),
-        ("describe @ 2 --json", "", "", 1),
-        ("verify @ 0 --read-only", damaged, "", 3),
-        ("verify @ 1 --read-only", "verified 1\n", "", 0),
-        ("verify @ 2 --read-only", "", "", 1),
-        ("verify @ 0", damaged, "", 3),
-        ("verify @ 1", "verified 1\n", "", 0),
-        ("verify @ 2", "", "", 1),
-    ];
-    plays(&rt, rt, "one", &rows)
+    plays(&rt, rt, "one", ONE)
 }
+
+const NONE: &str = "\
+create @ --history 16 => 0 created;
+verify @ 0 => 1 ! error 1 UnknownRecording;
+";
 
 /// `verify` of a recording that is not there prints that refusal on standard error, and ends with status 1.
 #[test]
 fn a_recording_that_is_not_there(rt: HostRuntime) -> Result<(), Fail> {
-    let rows = [
-        ("create @ --history 16", "created\n", "", 0),
-        ("verify @ 0", "", "error 1 UnknownRecording\n", 1),
-    ];
-    plays(&rt, rt, "none", &rows)
+    plays(&rt, rt, "none", NONE)
 }
 
 /// Waits for 300 milliseconds, and closes the folder then.
@@ -88,15 +77,16 @@ fn status_behind<
     Ok(status)
 }
 
+const IN_USE: &str = "\
+create @ --history 16 => 0 created;
+held list @ --wait 1 => 3
+";
+
 /// A new archive is waited for while another opening has it.
 fn waits<
     R: Threads + Wait + Clock + Eprint + Net<Listener = TcpListener, Stream = TcpStream> + Sync,
 >(net: &R, rt: HostRuntime, folder: &str) -> Result<u8, Fail> {
-    let rows = [
-        ("create @ --history 16", "created\n", "", 0),
-        ("held list @ --wait 1", "", "", 3),
-    ];
-    obeys_each(net, rt, folder, &rows)?;
+    obeys_each(net, rt, folder, IN_USE)?;
     status_behind(net, rt, folder)
 }
 
@@ -114,15 +104,10 @@ fn a_folder_in_use_is_waited_for(rt: HostRuntime) -> Result<(), Fail> {
 /// `serve --no-create` refuses a folder without an archive, says so, and makes nothing in it.
 #[test]
 fn no_archive_is_made(rt: HostRuntime) -> Result<(), Fail> {
-    let error = "the folder has no archive, and none is made with --no-create";
     let (control, receive) = free_ports(rt)?;
-    let serve = format!(in rt.alloc();
-        "serve @ --control {control} --receive {receive} --quiet --no-create"
+    let script = format!(in rt.alloc();
+        "create @ --history 0 => 1\nserve @ --control {control} --receive {receive} --quiet --no-create => 1 ! \
+        the folder has no archive, and none is made with --no-create\nempty"
     )?;
-    let rows = [
-        ("create @ --history 0", "", "", 1),
-        (serve.as_str(), "", error, 1),
-        ("empty", "", "", 0),
-    ];
-    plays(&rt, rt, "not-made", &rows)
+    plays(&rt, rt, "not-made", script.as_str())
 }

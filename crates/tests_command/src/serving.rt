@@ -256,136 +256,116 @@ fn a_missing_port(rt: HostRuntime) -> Result<(), Fail> {
     check_missing(rt.alloc(), "serve a --control 1", "--receive <port>")
 }
 
-pub(crate) const ABSENT: &str = "the folder is not there";
-
-/// A folder that is not there is served with these options, which stand between bars if they begin with one: what standard error
-/// gets has to be this, and the status that. No port is taken.
-pub(crate) fn check_unserved<
+/// A folder that is not there is served with options, which stand between bars if they begin with one, and comes to what stands
+/// behind them. No port is taken.
+fn check_unserved<
     R: Threads + Wait + Clock + Eprint + Net<Listener = TcpListener, Stream = TcpStream> + Sync,
->(net: &R, rt: HostRuntime, options: &str, error: &str, status: u8) -> Result<(), Fail> {
+>(net: &R, rt: HostRuntime, options: &str) -> Result<(), Fail> {
     let line = if options.starts_with('|') {
         format!(in rt.alloc(); "serve|/archive_tool-unserved|--control|1|--receive|2{options}")?
     } else {
         format!(in rt.alloc(); "serve /archive_tool-unserved --control 1 --receive 2 {options}")?
     };
-    check(net, rt, "@", &(line.as_str(), "", error, status))
+    check(net, rt, "@", line.as_str())
 }
 
-/// The same of some options, and one that is given so many times.
+/// The same of a server of streams with an option that is given so many times.
 pub(crate) fn check_repeated<
     R: Threads + Wait + Clock + Eprint + Net<Listener = TcpListener, Stream = TcpStream> + Sync,
->(
-    net: &R,
-    rt: HostRuntime,
-    options: &str,
-    repeated: (&str, usize),
-    error: &str,
-    status: u8,
-) -> Result<(), Fail> {
-    let (option, count) = repeated;
+>(net: &R, rt: HostRuntime, option: &str, count: usize, outcome: &str) -> Result<(), Fail> {
     let all = option.repeat(rt.alloc(), count)?;
-    let line = format!(in rt.alloc(); "{options}{}", all.as_str());
+    let line = format!(in rt.alloc(); "--aeron{}{outcome}", all.as_str());
     drop(all);
-    check_unserved(net, rt, line?.as_str(), error, status)
+    check_unserved(net, rt, line?.as_str())
 }
 
-/// The same of each line of a table.
+/// The same of each line of a text.
 pub(crate) fn check_each_unserved<
     R: Threads + Wait + Clock + Eprint + Net<Listener = TcpListener, Stream = TcpStream> + Sync,
->(net: &R, rt: HostRuntime, rows: &[(&str, &str, u8)]) -> Result<(), Fail> {
-    for (options, error, status) in rows {
-        check_unserved(net, rt, options, error, *status)?;
+>(net: &R, rt: HostRuntime, rows: &str) -> Result<(), Fail> {
+    for row in rows.lines() {
+        check_unserved(net, rt, row)?;
     }
     Ok(())
 }
 
+const WRONG_WORDS: &str = "\
+--receive-on 10.0.0 => 2 ! --receive-on wants an IPv4 address
+--receive-on 224.0.0.0 => 2 ! --receive-on wants an address of this machine, not a multicast address
+--receive-on 239.255.255.255 => 2 ! --receive-on wants an address of this machine, not a multicast address
+--receive-on 223.255.255.255 --aeron --window 4100 => 2 ! --window wants a multiple of 32
+--aeron --window 4100 => 2 ! --window wants a multiple of 32
+--window 4096 => 2 ! --window needs --aeron
+--aeron --window 4096 => 3 ! the folder is not there
+--aeron --window 1048576 => 3 ! the folder is not there
+--aeron => 3 ! the folder is not there
+--quiet => 3 ! the folder is not there
+";
+
 /// Wrong words of `serve` are a usage error, and its folder is not opened. It is opened if they are right.
 #[test]
 fn wrong_words_of_a_server(rt: HostRuntime) -> Result<(), Fail> {
-    let address = "--receive-on wants an IPv4 address";
-    let multicast = "--receive-on wants an address of this machine, not a multicast address";
-    let window = "--window wants a multiple of 32";
-    let rows = [
-        ("--receive-on 10.0.0", address, 2),
-        ("--receive-on 224.0.0.0", multicast, 2),
-        ("--receive-on 239.255.255.255", multicast, 2),
-        (
-            "--receive-on 223.255.255.255 --aeron --window 4100",
-            window,
-            2,
-        ),
-        ("--aeron --window 4100", window, 2),
-        ("--window 4096", "--window needs --aeron", 2),
-        ("--aeron --window 4096", ABSENT, 3),
-        ("--aeron --window 1048576", ABSENT, 3),
-        ("--aeron", ABSENT, 3),
-        ("--quiet", ABSENT, 3),
-    ];
-    check_each_unserved(&rt, rt, &rows)
+    check_each_unserved(&rt, rt, WRONG_WORDS)
 }
+
+const NAMES: &str = "\
+|--name=AZaz09_.-0123456789012345678901234567890123456789012345678901234 => 3 ! the folder is not there
+|--name=a => 3 ! the folder is not there
+|--name=AZaz09_.-01234567890123456789012345678901234567890123456789012345 => 2 ! --name wants 1 to 64 of the characters A-Z, a-z, 0-9, _, . and -
+|--name= => 2 ! --name wants 1 to 64 of the characters A-Z, a-z, 0-9, _, . and -
+|--name=a b => 2 ! --name wants 1 to 64 of the characters A-Z, a-z, 0-9, _, . and -
+|--name=a\" => 2 ! --name wants 1 to 64 of the characters A-Z, a-z, 0-9, _, . and -
+|--name=/ => 2 ! --name wants 1 to 64 of the characters A-Z, a-z, 0-9, _, . and -
+|--name=: => 2 ! --name wants 1 to 64 of the characters A-Z, a-z, 0-9, _, . and -
+|--name=@ => 2 ! --name wants 1 to 64 of the characters A-Z, a-z, 0-9, _, . and -
+|--name=[ => 2 ! --name wants 1 to 64 of the characters A-Z, a-z, 0-9, _, . and -
+|--name=` => 2 ! --name wants 1 to 64 of the characters A-Z, a-z, 0-9, _, . and -
+|--name={ => 2 ! --name wants 1 to 64 of the characters A-Z, a-z, 0-9, _, . and -
+|--name=\u{e9} => 2 ! --name wants 1 to 64 of the characters A-Z, a-z, 0-9, _, . and -
+";
 
 /// A name of a recorder has 1 to 64 letters, digits, `_`, `.` and `-`.
 #[test]
 fn names_of_a_server(rt: HostRuntime) -> Result<(), Fail> {
-    let wrong = "--name wants 1 to 64 of the characters A-Z, a-z, 0-9, _, . and -";
-    let longest = "|--name=AZaz09_.-0123456789012345678901234567890123456789012345678901234";
-    let longer = "|--name=AZaz09_.-01234567890123456789012345678901234567890123456789012345";
-    let rows = [
-        (longest, ABSENT, 3),
-        ("|--name=a", ABSENT, 3),
-        (longer, wrong, 2),
-        ("|--name=", wrong, 2),
-        ("|--name=a b", wrong, 2),
-        ("|--name=a\"", wrong, 2),
-        ("|--name=/", wrong, 2),
-        ("|--name=:", wrong, 2),
-        ("|--name=@", wrong, 2),
-        ("|--name=[", wrong, 2),
-        ("|--name=`", wrong, 2),
-        ("|--name={", wrong, 2),
-        ("|--name=\u{e9}", wrong, 2),
-    ];
-    check_each_unserved(&rt, rt, &rows)
+    check_each_unserved(&rt, rt, NAMES)
 }
+
+const WRONG_CONSUMERS: &str = "\
+--consumers-on 127.0.0.1 => 2 ! --consumers-on needs --consumers
+--consumers-on x => 2 ! --consumers-on needs --consumers
+--consumers 3 --consumers-on 10.0.0 => 2 ! --consumers-on wants an IPv4 address
+--consumers 3 --consumers-on 224.0.0.1 => 2 ! --consumers-on wants an address of this machine, not a multicast address
+--consumers 3 --consumers-on 127.0.0.1 => 3 ! the folder is not there
+--consumers 3 => 3 ! the folder is not there
+";
 
 /// An address of consumers without their port, and one that no machine has, are usage errors too.
 #[test]
 fn wrong_consumers_of_a_server(rt: HostRuntime) -> Result<(), Fail> {
-    let needs = "--consumers-on needs --consumers";
-    let address = "--consumers-on wants an IPv4 address";
-    let multicast = "--consumers-on wants an address of this machine, not a multicast address";
-    let rows = [
-        ("--consumers-on 127.0.0.1", needs, 2),
-        ("--consumers-on x", needs, 2),
-        ("--consumers 3 --consumers-on 10.0.0", address, 2),
-        ("--consumers 3 --consumers-on 224.0.0.1", multicast, 2),
-        ("--consumers 3 --consumers-on 127.0.0.1", ABSENT, 3),
-        ("--consumers 3", ABSENT, 3),
-    ];
-    check_each_unserved(&rt, rt, &rows)
+    check_each_unserved(&rt, rt, WRONG_CONSUMERS)
 }
+
+const WRONG_NETWORKS: &str = "\
+--from 10.1.0.0/16 => 2 ! --from needs --aeron
+--aeron --from 127.0.0.1 => 3 ! the folder is not there
+--aeron --from 0.0.0.0/0 => 3 ! the folder is not there
+--aeron --from 127.0.0.1/32 => 3 ! the folder is not there
+--aeron --from 127.0.0.1/33 => 2 ! --from wants an IPv4 address, or one and a number of bits, as 10.1.0.0/16
+--aeron --from 127.0.0.1/ => 2 ! --from wants an IPv4 address, or one and a number of bits, as 10.1.0.0/16
+--aeron --from 127.0.0/8 => 2 ! --from wants an IPv4 address, or one and a number of bits, as 10.1.0.0/16
+--aeron --from 127.0.0.1/8/8 => 2 ! --from wants an IPv4 address, or one and a number of bits, as 10.1.0.0/16
+--aeron --from ::1 => 2 ! --from wants an IPv4 address, or one and a number of bits, as 10.1.0.0/16
+--aeron --from= => 2 ! --from wants an IPv4 address, or one and a number of bits, as 10.1.0.0/16
+";
 
 /// Networks without `--aeron`, too many of them, and words that are no network are usage errors. Each of 16 networks is right.
 #[test]
 fn wrong_networks_of_a_server(rt: HostRuntime) -> Result<(), Fail> {
-    let wanted = "--from wants an IPv4 address, or one and a number of bits, as 10.1.0.0/16";
-    let rows = [
-        ("--from 10.1.0.0/16", "--from needs --aeron", 2),
-        ("--aeron --from 127.0.0.1", ABSENT, 3),
-        ("--aeron --from 0.0.0.0/0", ABSENT, 3),
-        ("--aeron --from 127.0.0.1/32", ABSENT, 3),
-        ("--aeron --from 127.0.0.1/33", wanted, 2),
-        ("--aeron --from 127.0.0.1/", wanted, 2),
-        ("--aeron --from 127.0.0/8", wanted, 2),
-        ("--aeron --from 127.0.0.1/8/8", wanted, 2),
-        ("--aeron --from ::1", wanted, 2),
-        ("--aeron --from=", wanted, 2),
-    ];
-    check_each_unserved(&rt, rt, &rows)?;
+    check_each_unserved(&rt, rt, WRONG_NETWORKS)?;
     let option = " --from 10.1.0.0/16";
-    check_repeated(&rt, rt, "--aeron", (option, 16), ABSENT, 3)?;
-    let many = "--from may be given at most 16 times";
-    check_repeated(&rt, rt, "--aeron", (option, 17), many, 2)
+    check_repeated(&rt, rt, option, 16, " => 3 ! the folder is not there")?;
+    let many = " => 2 ! --from may be given at most 16 times";
+    check_repeated(&rt, rt, option, 17, many)
 }
 
 /// `serve` takes the networks of `--from` in their order, as they were given.
@@ -397,61 +377,53 @@ fn serve_takes_networks(rt: HostRuntime) -> Result<(), Fail> {
     Ok(())
 }
 
+const WRONG_STREAMS: &str = "\
+--record 0 => 2 ! --record needs --aeron
+--aeron --segment-length 65536 => 2 ! --segment-length needs --record
+--aeron --record 0 --segment-length 65537 => 2 ! --segment-length wants a power of two
+--aeron --record 0 --segment-length 1073741823 => 2 ! --segment-length wants a power of two
+--aeron --record 0 --segment-length 65536 => 3 ! the folder is not there
+--aeron --record 0 --segment-length 1073741824 => 3 ! the folder is not there
+";
+
 /// Streams without `--aeron`, too many of them, and a bad length of their segments are usage errors too.
 #[test]
 fn wrong_streams_of_a_server(rt: HostRuntime) -> Result<(), Fail> {
-    let length = "--segment-length wants a power of two";
-    let rows = [
-        ("--record 0", "--record needs --aeron", 2),
-        (
-            "--aeron --segment-length 65536",
-            "--segment-length needs --record",
-            2,
-        ),
-        ("--aeron --record 0 --segment-length 65537", length, 2),
-        ("--aeron --record 0 --segment-length 1073741823", length, 2),
-        ("--aeron --record 0 --segment-length 65536", ABSENT, 3),
-        ("--aeron --record 0 --segment-length 1073741824", ABSENT, 3),
-    ];
-    check_each_unserved(&rt, rt, &rows)?;
-    check_repeated(&rt, rt, "--aeron", (" --record 5", 64), ABSENT, 3)?;
-    let many = "--record may be given at most 64 times";
-    check_repeated(&rt, rt, "--aeron", (" --record 5", 65), many, 2)
+    check_each_unserved(&rt, rt, WRONG_STREAMS)?;
+    let option = " --record 5";
+    check_repeated(&rt, rt, option, 64, " => 3 ! the folder is not there")?;
+    let many = " => 2 ! --record may be given at most 64 times";
+    check_repeated(&rt, rt, option, 65, many)
 }
+
+const WRONG_CHECKPOINTS: &str = "\
+--no-checkpoints => 2 ! --no-checkpoints needs --aeron
+--checkpoints --no-checkpoints => 2 ! --checkpoints and --no-checkpoints contradict each other
+--aeron --checkpoints --no-checkpoints => 2 ! --checkpoints and --no-checkpoints contradict each other
+--aeron --no-checkpoints => 3 ! the folder is not there
+--aeron --checkpoints => 3 ! the folder is not there
+--checkpoints => 3 ! the folder is not there
+";
 
 /// `--no-checkpoints` without `--aeron`, and with `--checkpoints`, is a usage error too.
 #[test]
 fn wrong_checkpoints_of_a_server(rt: HostRuntime) -> Result<(), Fail> {
-    let needs = "--no-checkpoints needs --aeron";
-    let both = "--checkpoints and --no-checkpoints contradict each other";
-    let rows = [
-        ("--no-checkpoints", needs, 2),
-        ("--checkpoints --no-checkpoints", both, 2),
-        ("--aeron --checkpoints --no-checkpoints", both, 2),
-        ("--aeron --no-checkpoints", ABSENT, 3),
-        ("--aeron --checkpoints", ABSENT, 3),
-        ("--checkpoints", ABSENT, 3),
-    ];
-    check_each_unserved(&rt, rt, &rows)
+    check_each_unserved(&rt, rt, WRONG_CHECKPOINTS)
 }
+
+const HIDDEN: &str = "\
+list @ --read-only => 0 recording 0 1000 -1 0 -1 42 131072 65536 1408 7 1001 c;end 1;
+list @ => 0 recording 0 1000 -1 0 0 42 131072 65536 1408 7 1001 c;end 1;
+";
 
 /// A Settle past the closed gate, with its frames: a strict server leaves the archive alone, and its recording active.
 #[test]
 fn a_strict_server_and_a_hidden_entry(rt: HostRuntime) -> Result<(), Fail> {
-    let hidden = "the archive is not opened, since entries may be hidden";
-    let left = "recording 0 1000 -1 0 -1 42 131072 65536 1408 7 1001 c\nend 1\n";
-    let stopped = "recording 0 1000 -1 0 0 42 131072 65536 1408 7 1001 c\nend 1\n";
     let (control, receive) = free_ports(rt)?;
-    let serve = format!(in rt.alloc();
-        "serve @ --control {control} --receive {receive} --quiet --strict"
+    let script = format!(in rt.alloc();
+        "create @ --history 16 => 0 created;\nrecord\nclose-gate\n\
+        serve @ --control {control} --receive {receive} --quiet --strict => 3 ! \
+        the archive is not opened, since entries may be hidden\n{HIDDEN}"
     )?;
-    let rows = [
-        ("create @ --history 16", "created\n", "", 0),
-        ("record", "", "", 0),
-        ("close-gate", "", "", 0),
-        (serve.as_str(), "", hidden, 3),
-        ("list @ --read-only", left, "", 0),
-        ("list @", stopped, "", 0),
-    ];
-    plays(&rt, rt, "hidden", &rows)
+    plays(&rt, rt, "hidden", script.as_str())
 }

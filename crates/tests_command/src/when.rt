@@ -1,7 +1,7 @@
 //! The command `when` over a real folder, and the options of times: docs/CONTROL.md, "When a frame was recorded"; docs/SERVING.md, "When a
 //! frame was recorded".
 
-use crate::folders::{Row, emptied, obeys_each, unused};
+use crate::folders::{emptied, obeys_each, unused};
 use crate::serving::{change_each, check_option};
 use std::fs;
 use std::io::Eprint;
@@ -35,29 +35,32 @@ fn looks_up_in<
     rt: HostRuntime,
     folder: &str,
     files: &[(&str, &str)],
-    rows: &[Row<'_>],
+    script: &str,
 ) -> Result<(), Fail> {
     make_folder(rt, folder, files)?;
-    obeys_each(net, rt, folder, rows)
+    obeys_each(net, rt, folder, script)
 }
 
 /// The same in a folder of its own, which is not there before and after.
 fn looks_up<
     R: Threads + Wait + Clock + Eprint + Net<Listener = TcpListener, Stream = TcpStream> + Sync,
->(
-    net: &R,
-    rt: HostRuntime,
-    test: &str,
-    files: &[(&str, &str)],
-    rows: &[Row<'_>],
-) -> Result<(), Fail> {
+>(net: &R, rt: HostRuntime, test: &str, files: &[(&str, &str)], script: &str) -> Result<(), Fail> {
     let folder = unused(rt, test)?;
-    let looked = looks_up_in(net, rt, folder.as_str(), files, rows);
+    let looked = looks_up_in(net, rt, folder.as_str(), files, script);
     let emptied = emptied(rt, folder.as_str());
     drop(folder);
     looked?;
     Ok(emptied?)
 }
+
+const STOOD: &str = "\
+when @ 0 2025-11-29T08:41:36.123Z => 0 position 64 from 1764405696123 to 1764405697000;
+when @ 0 1764405697000 => 0 position 128 from 1764405697000 to -1;
+when @ 0 1764405696122 => 1 none before 1764405696122;
+when @ 2 5 => 1
+when @ 1 500 => 1
+when @ 0 yesterday => 2
+";
 
 /// `when` prints where a recording stood at a time, or that there is nothing before; of a recording without a file, with two files, or
 /// at no time it prints nothing.
@@ -69,29 +72,19 @@ fn where_a_recording_stood(rt: HostRuntime) -> Result<(), Fail> {
         ("1-6.times", "100 64\n"),
         ("notes", ""),
     ];
-    let first = "position 64 from 1764405696123 to 1764405697000\n";
-    let second = "position 128 from 1764405697000 to -1\n";
-    let none = "none before 1764405696122\n";
-    let rows = [
-        ("when @ 0 2025-11-29T08:41:36.123Z", first, "", 0),
-        ("when @ 0 1764405697000", second, "", 0),
-        ("when @ 0 1764405696122", none, "", 1),
-        ("when @ 2 5", "", "", 1),
-        ("when @ 1 500", "", "", 1),
-        ("when @ 0 yesterday", "", "", 2),
-    ];
-    looks_up(&rt, rt, "when", &files, &rows)
+    looks_up(&rt, rt, "when", &files, STOOD)
 }
+
+const UNREAD: &str = "\
+mkdir 3-1.times
+when @ 3 5 => 3
+when @/none 0 5 => 3
+";
 
 /// A folder that is not there, and a file that is a folder or a link, are reported by a device fault.
 #[test]
 fn a_folder_of_times_that_cannot_be_read(rt: HostRuntime) -> Result<(), Fail> {
-    let rows = [
-        ("mkdir 3-1.times", "", "", 0),
-        ("when @ 3 5", "", "", 3),
-        ("when @/none 0 5", "", "", 3),
-    ];
-    looks_up(&rt, rt, "when_unread", &[("times", "1 64\n")], &rows)
+    looks_up(&rt, rt, "when_unread", &[("times", "1 64\n")], UNREAD)
 }
 
 const TIMES: &str = "\
