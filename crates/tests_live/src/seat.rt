@@ -11,7 +11,6 @@ use disk_core::Disk;
 use frame_core::{Block, Geometry, Refusal, block_of};
 use std::alloc::Global;
 use std::marker::PhantomData;
-use std::process::Abort;
 use std::sync::Wait;
 use std::test::Fail;
 
@@ -163,7 +162,7 @@ impl<A: Naming> Seat<A> {
     }
 
     /// Makes the calls of a script, which have to be answered as it says.
-    pub fn plays<D: Disk, R: Wait + Abort>(
+    pub fn plays<D: Disk, R: Wait>(
         &mut self,
         rt: &R,
         alloc: Global,
@@ -171,12 +170,11 @@ impl<A: Naming> Seat<A> {
         script: &str,
     ) -> Result<(), Fail> {
         let text = self.transcript(rt, alloc, archive, script)?;
-        assert!(rt;
-            text.as_slice() == script.as_bytes(),
-            "{:?}",
-            std::str::from_utf8(text.as_slice())
-        );
-        Ok(())
+        if text.as_slice() == script.as_bytes() {
+            Ok(())
+        } else {
+            Err(Fail::from(std::str::from_utf8(text.as_slice())))
+        }
     }
 }
 
