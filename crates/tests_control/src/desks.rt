@@ -43,8 +43,10 @@ fn asked(kind: u8, recording: i64, number: i64) -> Request {
 /// Makes an accepted request.
 pub(crate) fn make(alloc: Global, desk: &mut Desk, request: &Request) -> Result<(), Refusal> {
     laws::what_is_decided_is_allowed();
-    let Decision::Accepted(command) = decide(alloc, desk, request) else {
-        return Err(Refusal::BadLine);
+    let command = match decide(alloc, desk, request) {
+        Decision::Accepted(command) => command,
+        Decision::Refused(refusal) => return Err(refusal),
+        _ => return Err(Refusal::BadLine),
     };
     desk.reserve(&command)?;
     desk.accept(command);

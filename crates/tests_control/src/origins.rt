@@ -228,11 +228,10 @@ fn a_recording_keeps_its_source(rt: HostRuntime) -> Result<(), Fail> {
     Ok(())
 }
 
-/// Made again where a request for memory was refused, also one of a line, which is none then.
 fn made_again(alloc: Global) -> Result<Desk, Refusal> {
     match with_sources(alloc) {
-        Ok(desk) => Ok(desk),
-        Err(_) => with_sources(alloc),
+        Err(Refusal::NoMemory) => with_sources(alloc),
+        desk => desk,
     }
 }
 
