@@ -11,6 +11,7 @@ use disk_core::Disk;
 use frame_core::{Block, Geometry, Refusal, block_of};
 use std::alloc::Global;
 use std::marker::PhantomData;
+use std::process::Abort;
 use std::sync::Wait;
 use std::test::Fail;
 
@@ -161,8 +162,8 @@ impl<A: Naming> Seat<A> {
         Ok(text)
     }
 
-    /// Makes the calls of a script, which have to be answered as it says.
-    pub fn plays<D: Disk, R: Wait>(
+    /// Makes the calls of a script, which have to be answered as it says; `NoMemory` if one found none.
+    pub fn plays<D: Disk, R: Wait + Abort>(
         &mut self,
         rt: &R,
         alloc: Global,
@@ -171,16 +172,28 @@ impl<A: Naming> Seat<A> {
     ) -> Result<(), Fail> {
         let text = self.transcript(rt, alloc, archive, script)?;
         if text.as_slice() == script.as_bytes() {
-            Ok(())
-        } else {
-            Err(Fail::from(std::str::from_utf8(text.as_slice())))
+            return Ok(());
         }
+        assert!(rt;
+            lacks_memory(text.as_slice()),
+            "{:?}",
+            std::str::from_utf8(text.as_slice())
+        );
+        Err(Fail::from(Refusal::NoMemory))
     }
 }
 
 /// The block of bytes, by the terms of their session.
 fn read(alloc: Global, terms: &Geometry, bytes: &[u8]) -> Result<Block, Refusal> {
     block_of(alloc, terms, bytes)
+}
+
+/// Whether an answer is want of memory, or a fault of the disk in memory, which may find none.
+fn lacks_memory(text: &[u8]) -> bool {
+    match std::str::from_utf8(text) {
+        Ok(text) => text.contains("error 18 NoMemory") || text.contains("error 17 DeviceFault"),
+        Err(_) => false,
+    }
 }
 
 /// What is told of an answer.
