@@ -1,15 +1,18 @@
 #!/usr/bin/env python3
-"""Runs the gate anew and tells what it spent: first in units, the proof of frame_core as it stood in the commit 426571b, which
-is proved beside it; then the minutes and processor seconds of each crate's proof, tests and edits, the longest chain of these
-that wait for one another, and the dearest edits.
+"""Runs the gate from nothing and prints what it cost: units and minutes, the memory that it held, then the minutes and processor
+seconds of each crate's proof, tests and edits, the longest chain of these that wait for one another, and the most expensive edits.
 
 Usage: tools/gate.py [--kept] [NAME..]   runs `rt ci` from nothing at the top of the repository; its status is that of rt ci
 With --kept over what earlier runs on this machine passed: so a gate can be measured in parts, each of which is done once.
 Where `rt ci` keeps what it passed (rattle-kit-13f) that is `rt ci --anew [NAME..]`; where it proves from nothing each time
-(rattle-kit-13b) it takes no crate's name. Broken off by Ctrl-C or SIGTERM, it ends the run, and tells what that had spent.
-The whole has to stay under 126 units, so that four slow cores run it in 180 minutes. The processors should be idle: minutes are
-by the clock. Processor seconds are sampled twice a second from /proc, so up to half a second of each process is missed. A check's
-workers are counted with it. What rt says is printed as it comes, behind the minute.
+(rattle-kit-13b) it takes no crate's name. Broken off by Ctrl-C or SIGTERM, it ends the run, and prints what that had spent.
+As many crates are proved at a time as tools/jobs.py says.
+
+A unit is 126 processor seconds on the machine of docs/GATE.md. To scale that to this machine, frame_core as of commit 426571b is
+proved by one worker beside the run's beginning; that took 95 seconds on the machine of docs/GATE.md. The budget is 126 units, and
+80 minutes with four processors, 150 with two. The processors should be idle: minutes are by the clock. Processor seconds are sampled
+twice a second from /proc, so up to half a second of each process is missed. A check's workers are counted with it. Lines of rt are
+printed as they come, each after the minute.
 """
 import os
 import re
@@ -23,12 +26,16 @@ from collections import defaultdict
 from contextlib import contextmanager
 from pathlib import Path
 
+from jobs import free_bytes, jobs
 from repository import ROOT, dependencies
 
-TICKS = os.sysconf("SC_CLK_TCK")
+TICKS, PAGE = os.sysconf("SC_CLK_TCK"), os.sysconf("SC_PAGE_SIZE")
+GIGABYTE = 10**9
 PERIOD = 0.5
 PARTS = ("proof", "tests", "edits")
-UNIT, UNIT_CRATE, MOST_UNITS = "426571b", "frame_core", 126
+# What a unit is proved by, its processor seconds, and those that its proof by one worker took on the machine of docs/GATE.md.
+UNIT, UNIT_CRATE, UNIT_SECONDS, UNIT_PROOF_SECONDS = "426571b", "frame_core", 126, 95
+MOST_UNITS, MOST_MINUTES, MOST_MINUTES_OF_TWO = 126, 80, 150
 DEAREST = 40
 # What processes work at beside a crate's proof and tests: the check that its edits begin with, and the one that ends them. Of an
 # edit that is tried in turn, over what those before it left, the number is known by its folder alone.
@@ -60,10 +67,29 @@ class Process:
             self.number = int(seed) if seed.isdigit() else BEGIN if seed == "seed" else in_turn
 
 
+class Memory:
+    """What the checks held at most, all at a time and one alone, and what was free at least, in bytes."""
+
+    def __init__(self) -> None:
+        self.all, self.one, self.whose, self.free = 0, 0, "no check", free_bytes()
+
+    def take(self, held: dict[tuple[str, str], int]) -> None:
+        """Notes what each check holds now. A check is known by what it is of, and by its folder."""
+        self.all, self.free = max(self.all, sum(held.values())), min(self.free, free_bytes())
+        one, whose = max(((much, what) for (what, _), much in held.items()), default=(0, ""))
+        if one > self.one:
+            self.one, self.whose = one, whose
+
+    def __str__(self) -> str:
+        held, one, free = (it / GIGABYTE for it in (self.all, self.one, self.free))
+        return f"Resident at most: {held:.1f} GB in all checks, {one:.1f} GB in one ({self.whose}); free at least {free:.1f} GB."
+
+
 class Samples:
     """What each part of each crate has taken: processor seconds, and when it was first and last seen."""
 
     def __init__(self) -> None:
+        self.memory = Memory()
         self.spent: dict[tuple[int, int], tuple[Process, float]] = {}
         self.begun: dict[str, str] = {}  # of each crate, the folder of the check that its edits begin with
         self.turns: dict[str, list[str]] = defaultdict(list)  # and those of edits that are tried in turn
@@ -85,6 +111,10 @@ class Samples:
             except (OSError, ValueError):
                 continue
         workers = {number: int(fields[1]) for number, (fields, _) in found.items() if int(fields[1]) in found}
+        held: dict[tuple[str, str], int] = defaultdict(int)
+        for fields, process in found.values():
+            held[f"{process.crate} {process.part}", process.folder] += PAGE * int(fields[21])
+        self.memory.take(held)
         for number, (fields, process) in found.items():
             if number in workers:
                 continue
@@ -191,10 +221,11 @@ def report(samples: Samples, elapsed: float) -> None:
 class Run:
     """A run of rt ci, sampled until it ends."""
 
-    def __init__(self, top: Path, names: list[str], is_anew: bool) -> None:
+    def __init__(self, top: Path, names: list[str], is_anew: bool, at_a_time: int | None) -> None:
         self.samples, self.begun = Samples(), time.time()
         words = ["rt", "ci", *(["--anew"] if is_anew and keeps() else []), *names]
-        self.ran = subprocess.Popen(words, cwd=top, stdout=subprocess.PIPE, stderr=subprocess.STDOUT, text=True)
+        room = os.environ | ({"RT_JOBS": str(at_a_time)} if at_a_time else {})
+        self.ran = subprocess.Popen(words, cwd=top, env=room, stdout=subprocess.PIPE, stderr=subprocess.STDOUT, text=True)
         self.watcher = threading.Thread(target=self.watch)
         self.watcher.start()
 
@@ -227,7 +258,7 @@ class Run:
 
 @contextmanager
 def unit():
-    """Begins the proof of the unit beside the block, and gives a function that waits for it: its processor seconds."""
+    """Begins the proof of the unit by one worker beside the block, and gives a function that waits for it: its processor seconds."""
     with tempfile.TemporaryDirectory() as room:
         top = Path(room)
         for part in ("src", "specs", "proofs"):
@@ -237,7 +268,7 @@ def unit():
         own = [line for line in lines.splitlines() if line.startswith(f"{UNIT_CRATE}:")]
         (top / "crates.txt").write_text(own[0] + "\n")
         subprocess.run(["git", "init", "-q", top], check=True)
-        run = Run(top, [], True)
+        run = Run(top, [], True, 1)
 
         def seconds() -> float:
             said = "".join(run.lines())
@@ -255,12 +286,15 @@ def main() -> int:
     kept = re.compile(r"^rt: |passed|FAILED|NOT ")
     signal.signal(signal.SIGTERM, signal.default_int_handler)
     with unit() as unit_seconds:
-        run = Run(ROOT, names, not is_kept)
+        run = Run(ROOT, names, not is_kept, jobs())
         is_cut = run.is_broken_off(kept)
-        elapsed, of_unit = time.time() - run.begun, unit_seconds()
+        elapsed, proved_in = time.time() - run.begun, unit_seconds()
+    of_unit = UNIT_SECONDS * proved_in / UNIT_PROOF_SECONDS
     units = sum(run.samples.seconds().values()) / of_unit
-    of_what = f"the whole product has to stay under {MOST_UNITS}{'; broken off' if is_cut else ''}"
-    print(f"{units:.1f} units of {of_unit:.0f} processor seconds; {of_what}")
+    budget = f"{MOST_UNITS} units, {MOST_MINUTES} minutes with four processors, {MOST_MINUTES_OF_TWO} with two"
+    print(f"{units:.1f} units of {of_unit:.0f} processor seconds ({UNIT_CRATE} took {proved_in:.0f}), {elapsed / 60:.1f} minutes", end="")
+    print(f"{'; broken off' if is_cut else ''}. The budget is {budget}.")
+    print(run.samples.memory)
     report(run.samples, elapsed)
     return run.ran.returncode
 

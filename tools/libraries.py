@@ -3,8 +3,9 @@
 
 Usage: tools/libraries.py            status 0 where each library is proved
 `rt` lets one call at a time work in a library and in all below it, so `rt run` proves one after another and leaves half of four
-processors idle. So calls work in copies of the repository, side by side; what is proved in one is linked into those that need it,
-and at the end into this checkout, before the copies go.
+processors idle. So calls work in copies of the repository, side by side, as many as tools/jobs.py says; what is proved in one is
+linked into those that need it, and at the end into this checkout, before the copies go. A library that few others can be proved
+next to gets the processors that they leave.
 """
 import os
 import shutil
@@ -14,10 +15,11 @@ import time
 from concurrent.futures import FIRST_COMPLETED, Future, ThreadPoolExecutor, wait
 from pathlib import Path
 
+from jobs import jobs
 from repository import ROOT, dependencies
 
 PROGRAM = "archive_tool"
-COPIES = max(2, (os.cpu_count() or 1) - 1)
+COPIES = jobs() or 1
 
 
 def below(crate: str, uses: dict[str, list[str]]) -> list[str]:
@@ -61,13 +63,13 @@ def link(crate: str, top: Path, to: Path) -> None:
     shutil.copytree(own, other, copy_function=link_file)
 
 
-def prove(crate: str, copy: Path, proved: dict[str, Path]) -> tuple[str, int, str]:
+def prove(crate: str, copy: Path, proved: dict[str, Path], workers: int) -> tuple[str, int, str]:
     """Proves a library in a copy, over what was proved in others: its name, rt's status and what rt said."""
     link(crate, ROOT, copy)
     for it, top in proved.items():
         link(it, top, copy)
     began = time.monotonic()
-    ran = subprocess.run(["rt", "lib", "--jobs", "2"], cwd=copy / "crates" / crate, capture_output=True, text=True)
+    ran = subprocess.run(["rt", "lib", "--jobs", str(workers)], cwd=copy / "crates" / crate, capture_output=True, text=True)
     if ran.returncode == 0:
         print(f"{crate} proved, {time.monotonic() - began:.0f} s", flush=True)
     return crate, ran.returncode, ran.stdout + ran.stderr
@@ -82,9 +84,10 @@ def prove_all(left: list[str], uses: dict[str, list[str]], copies: list[Path]) -
         while running or (left and not refused):
             ready = sorted((it for it in left if set(uses[it]) <= set(proved)), key=lambda it: levels(it, uses))
             while ready and copies and not refused:
+                workers = max(1, len(copies) // len(ready))
                 crate, copy = ready.pop(), copies.pop()
                 left.remove(crate)
-                running[pool.submit(prove, crate, copy, dict(proved))] = copy
+                running[pool.submit(prove, crate, copy, dict(proved), workers)] = copy
             for done in wait(running, return_when=FIRST_COMPLETED).done:
                 copies.append(copy := running.pop(done))
                 crate, status, said = done.result()

@@ -1,4 +1,4 @@
--- What a run handed out is durable in the log that it followed: docs/ARCHITECTURE.md, "Followers".
+-- What a run handed out is durable in the log that it followed: docs/ARCHITECTURE.md, "The board".
 use Rattle.std.specs.Prelude.{◌<ℤ◌, ℤ, All, IsTrue, List}
 use Rattle.archive_model.specs.Keyed.{Each}
 use Rattle.engine_core.specs.Consistent.{IsCrashConsistent}

@@ -1,4 +1,4 @@
--- Published positions: docs/ARCHITECTURE.md, "Followers". For each slot of a board the positions that its writer
+-- Published positions: docs/ARCHITECTURE.md, "The board". For each slot of a board the positions that its writer
 -- raised, and for each reader the position that it saw last in each slot.
 use Rattle.std.specs.Prelude.{ℕ, ◌+◌, ◌-◌, ◌<◌, ◌≤◌, ◌≤ℤ◌, ℤ, pos, List, [], ◌∷◌, ◌++◌, All, length, slice_index_or, slice_set, replicate}
 use Rattle.atomic_table.specs.Seated.{TableId}

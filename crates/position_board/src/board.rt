@@ -70,7 +70,7 @@ impl Board {
     }
 
     /// Raises the position of the writer's slot, in bytes of a stream, which is then the last of its positions. One store
-    /// of one word: no lock, no waiting, no memory. docs/ARCHITECTURE.md, "Followers".
+    /// of one word: no lock, no waiting, no memory. docs/ARCHITECTURE.md, "The board".
     pub fn raise(&self, writer: &mut Writer, position: i64)
         requires board { writer.old.table ≡ self.now }
         requires above { last_position writer.old.positions ≤ℤ position }
@@ -95,7 +95,7 @@ impl Board {
 
     /// The position of a slot, in bytes of a stream, which the reader has then seen. It never falls from one look to the
     /// next. That it is the slot's start or a position that its writer raised is told where the two meet. One load of one
-    /// word: no lock, no waiting, no memory. docs/ARCHITECTURE.md, "Followers".
+    /// word: no lock, no waiting, no memory. docs/ARCHITECTURE.md, "The board".
     pub fn look(&self, reader: &mut Reader, slot: usize) -> i64
         requires board { reader.old.table ≡ self.now }
         requires slot { slot < self.now.words }
@@ -119,7 +119,7 @@ impl Board {
 
     /// Shows the reader the last position of the writer's slot, which it answers. What the reader had seen in that slot is
     /// one of the writer's positions: the slot's start, or one that it raised. Four loads: no lock, no waiting, no memory.
-    /// docs/ARCHITECTURE.md, "Followers".
+    /// docs/ARCHITECTURE.md, "The board".
     pub fn meet(&self, writer: &mut Writer, reader: &mut Reader) -> i64
         requires writer { writer.old.table ≡ self.now }
         requires reader { reader.old.table ≡ self.now }

@@ -19,7 +19,7 @@ impl Board {
     /// A board of as many slots as there are starts, in bytes of a stream, with a writer for each slot, in their order, and
     /// so many readers, which have seen the starts. Refuses by `BadParameter` exactly where there are not 1 to 64 starts,
     /// more than 64 readers, or a start is below 0; by `NoMemory` where a request for memory is refused. Costs a word for
-    /// each slot, and a step for each slot and reader. docs/ARCHITECTURE.md, "Followers".
+    /// each slot, and a step for each slot and reader. docs/ARCHITECTURE.md, "The board".
     pub fn new(
         alloc: Global,
         starts: &[i64],

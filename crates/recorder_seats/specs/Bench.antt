@@ -1,4 +1,4 @@
--- One pass for all recorder sessions of a thread, with a writer for each: docs/ARCHITECTURE.md, "Followers". What a writer raised
+-- One pass for all recorder sessions of a thread, with a writer for each: docs/ARCHITECTURE.md, "The board". What a writer raised
 -- was settled by calls of the pass.
 use Rattle.std.specs.Prelude.{◌≡◌, ◌⊎◌, ℕ, ℤ, negsuc, List, [], ◌∷◌, Contains, Option, Some, None, slice_get, slice_set, Result, Ok, Err}
 use Rattle.atomic_table.specs.Seated.{TableId}

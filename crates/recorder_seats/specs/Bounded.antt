@@ -1,4 +1,4 @@
--- A replayer that another recorder's position holds back, and what its turn gives: docs/ARCHITECTURE.md, "Followers".
+-- A replayer that another recorder's position holds back, and what its turn gives: docs/ARCHITECTURE.md, "The board".
 use Rattle.std.specs.Prelude.{◌≡◌, ℕ, ℤ, is_none, Result, Ok, Err}
 use Rattle.frame_core.specs.declared.refusal.Refusal.{Refusal}
 use Rattle.archive_model.specs.declared.reply.Reply.{Reply}

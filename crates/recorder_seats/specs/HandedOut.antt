@@ -1,4 +1,4 @@
--- How far what a bounded replayer hands out is durable in the archive that it follows: docs/ARCHITECTURE.md, "Followers".
+-- How far what a bounded replayer hands out is durable in the archive that it follows: docs/ARCHITECTURE.md, "The board".
 use Rattle.std.specs.Prelude.{◌≡◌, ◌++◌, ℤ, List, ◌∷◌, Ok}
 use Rattle.archive_model.specs.Replay.{EndBy, placed_frames}
 use Rattle.archive_model.specs.declared.reply.Reply.TheVariants.{Settled}

@@ -1,4 +1,4 @@
--- A recorder's seat: docs/ARCHITECTURE.md, "Followers". What its writer raised was settled by calls of its pass.
+-- A recorder's seat: docs/ARCHITECTURE.md, "The board". What its writer raised was settled by calls of its pass.
 use Rattle.std.specs.Prelude.{◌≡◌, ℤ, if◌then◌else◌, int_le, List, drop, Contains, Result, Ok, Err}
 use Rattle.frame_core.specs.declared.refusal.Refusal.{Refusal}
 use Rattle.archive_model.specs.declared.reply.Reply.{Reply}

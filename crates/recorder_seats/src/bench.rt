@@ -1,4 +1,4 @@
-//! A recorder's bench: one pass for all of a thread's sessions, with a writer for each. docs/ARCHITECTURE.md, "Followers".
+//! A recorder's bench: one pass for all of a thread's sessions, with a writer for each. docs/ARCHITECTURE.md, "The board".
 
 ghost use Rattle.std.specs.Prelude.{◌≡◌, ℤ, Err, IfErr, IfOk, IsErrOf, List, MatchOption, MatchResult, Option, Some};
 ghost use Rattle.std.specs.List.{zip};
@@ -180,7 +180,7 @@ impl RecorderBench {
     /// Settles the session of a seat: one call, whose answer it gives, the position up to which the recording is then recorded, in
     /// bytes of the stream, and where the archive stands then. It raises the seat's slot to that position, unless this is below
     /// the slot's last; at a refusal it raises nothing. Where the answer is `NoMemory` the bench is as it was. docs/CONTROL.md,
-    /// "Control state"; docs/ARCHITECTURE.md, "Followers".
+    /// "Control state"; docs/ARCHITECTURE.md, "The board".
     pub fn settle<D: Disk, A: Naming, R: Wait>(
         &mut self,
         rt: &R,
@@ -219,7 +219,7 @@ impl RecorderBench {
     /// Settles the sessions of several seats together: one call, whose answer it gives, for each of them in their order the position
     /// up to which its recording is then recorded, or none where its session is not open. It raises the slot of each to its own
     /// position, unless this is below the slot's last; at a refusal it raises nothing. Where the answer is `NoMemory` the bench is
-    /// as it was. docs/CONTROL.md, "Control state"; docs/ARCHITECTURE.md, "Followers".
+    /// as it was. docs/CONTROL.md, "Control state"; docs/ARCHITECTURE.md, "The board".
     pub fn settle_all<D: Disk, A: Naming, R: Wait>(
         &mut self,
         rt: &R,

@@ -1,4 +1,4 @@
-//! A replayer that another recorder's position holds back. docs/ARCHITECTURE.md, "Followers".
+//! A replayer that another recorder's position holds back. docs/ARCHITECTURE.md, "The board".
 
 ghost use Rattle.std.specs.Prelude.{◌≡◌, ◌<◌, ◌<ℤ◌, ◌≤ℤ◌, IfOk, IsErrOf, Result};
 ghost use Rattle.frame_core.specs.declared.refusal.Refusal.{Refusal};

@@ -17,7 +17,7 @@ ghost use Rattle.recorder_seats.specs.Seat.{RaisedAreSettled};
 /// that a `BoundedReplayer` hands out, of this archive or another, begin before a durable position of the followed one.
 ///
 /// What it takes is what `SharedArchive::close` (`settled`, `all`), `RecorderSeat::into_parts` and `Board::meet` (`was`) give.
-/// docs/ARCHITECTURE.md, "Followers".
+/// docs/ARCHITECTURE.md, "The board".
 #[tactic(auto, using(crate::proofs::HandedOutLemmas::seen_is_durable))]
 pub fn what_is_handed_out_is_durable()
     ensures { (opening now : EngineState) (c : Content) (members : List Member)
@@ -32,7 +32,7 @@ pub fn what_is_handed_out_is_durable()
 /// So is a position that was seen in the slot of a bench's writer, which a settling of one session or of several answered.
 ///
 /// What it takes is what `SharedArchive::close` (`settled`, `together`, `all`), `RecorderBench::into_parts` and `Board::meet`
-/// (`was`) give. docs/ARCHITECTURE.md, "Followers".
+/// (`was`) give. docs/ARCHITECTURE.md, "The board".
 #[tactic(auto, using(crate::proofs::HandedOutLemmas::seen_of_bench))]
 pub fn what_a_bench_raised_is_durable()
     ensures { (opening now : EngineState) (c : Content) (members : List Member)

@@ -1,4 +1,4 @@
-//! A recorder's seat: a session, and a pass and a writer that belong together. docs/ARCHITECTURE.md, "Followers".
+//! A recorder's seat: a session, and a pass and a writer that belong together. docs/ARCHITECTURE.md, "The board".
 
 ghost use Rattle.std.specs.Prelude.{◌≡◌, [], ℤ, Err, IfOk, IfErr, IsErrOf, MatchOption};
 ghost use Rattle.frame_core.specs.declared.refusal.Refusal.TheVariants.{NoMemory};
@@ -150,7 +150,7 @@ impl RecorderSeat {
     /// Settles the session: one call, whose answer it gives, the position up to which the recording is then recorded, in
     /// bytes of the stream. Then it raises its slot to that position, unless this is below the slot's last; at a refusal it
     /// raises nothing. Where the answer is `NoMemory` the seat is as it was. Costs what the settling costs, and waits for
-    /// those that hold the lock. docs/CONTROL.md, "Control state"; docs/ARCHITECTURE.md, "Followers".
+    /// those that hold the lock. docs/CONTROL.md, "Control state"; docs/ARCHITECTURE.md, "The board".
     pub fn settle<D: Disk, A: Naming, R: Wait>(
         &mut self,
         rt: &R,

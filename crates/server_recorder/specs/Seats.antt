@@ -1,4 +1,4 @@
--- The seats of the recorder sessions that images feed, and the passes: docs/ARCHITECTURE.md, "Followers".
+-- The seats of the recorder sessions that images feed, and the passes: docs/ARCHITECTURE.md, "The board".
 use Rattle.std.specs.Prelude.{◌≡◌, ◌+◌, ◌<◌, ◌≤◌, ℕ, ℤ, true, List, [], ◌∷◌, Option, Some, Result, Err, IsErrOf, MatchOption, MatchResult}
 use Rattle.std.specs.List.{zip}
 use Rattle.atomic_table.specs.Seated.{TableId}

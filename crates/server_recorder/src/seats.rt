@@ -1,4 +1,4 @@
-//! The seats of the recorder sessions that images feed. docs/ARCHITECTURE.md, "Followers".
+//! The seats of the recorder sessions that images feed. docs/ARCHITECTURE.md, "The board".
 
 ghost use Rattle.std.specs.Prelude.{◌≡◌, ◌≤◌, ◌<◌, ◌+◌, ◌∷◌, [], IfErr, IfOk, pos, vec_capacity, vec_len};
 ghost use Rattle.frame_core.specs.declared.refusal.Refusal.TheVariants.{NoMemory};

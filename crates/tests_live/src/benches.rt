@@ -1,4 +1,4 @@
-//! Recorder sessions that a bench settles together, next to others: docs/ARCHITECTURE.md, "Followers".
+//! Recorder sessions that a bench settles together, next to others: docs/ARCHITECTURE.md, "The board".
 
 ghost use Rattle.std.specs.Prelude.{◌≡◌, [], IfOk, IfSome};
 ghost use Rattle.std.proofs.Props.{props};

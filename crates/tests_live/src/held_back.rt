@@ -1,4 +1,4 @@
-//! A replayer that a recorder's position holds back: docs/ARCHITECTURE.md, "Followers".
+//! A replayer that a recorder's position holds back: docs/ARCHITECTURE.md, "The board".
 
 ghost use Rattle.std.specs.Prelude.{◌≡◌, ◌<◌, [], IfSome};
 ghost use Rattle.recorder_seats.specs.Seat.{raised_positions};

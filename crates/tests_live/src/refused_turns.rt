@@ -1,4 +1,4 @@
-//! Turns of a bounded replayer that are refused over damage, and for want of memory: docs/ARCHITECTURE.md, "Followers".
+//! Turns of a bounded replayer that are refused over damage, and for want of memory: docs/ARCHITECTURE.md, "The board".
 
 use crate::agents::block_of;
 use crate::archives::{Scenario, played, played_again};

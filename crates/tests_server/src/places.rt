@@ -40,6 +40,34 @@ fn an_image_takes_frames_of_its_sender(rt: HostRuntime) -> Result<(), Fail> {
     converses(&rt, rt.alloc(), receiver(), MOVED)
 }
 
+/// Frames of two publications of one stream come in turn. Those of the second one carry other bytes, and come in another order.
+const IN_TURN: &str = "\
+casts SETUP
+casts SETUP_OF_8
+asks start 1001 7 42 65536 1408 65536 0 1000 c: started 0 0
+asks start 1001 8 42 65536 1408 65536 0 1000 c: started 1 1
+casts HELLO_AT_0
+casts WORLD_OF_8_AT_64
+casts HELLO_AT_64
+casts WORLD_OF_8_AT_0
+awaits positions 0: positions 0 128 -1
+awaits positions 1: positions 0 128 -1
+asks replay 0 0 -1: replay 0
+asks poll 0 10: frame 0 2500000000c001000000000007000000e90300002a000000000000000000000068656c6c6f
+follows frame 64 2500000000c001004000000007000000e90300002a000000000000000000000068656c6c6f
+follows more 128
+asks replay 1 0 -1: replay 1
+asks poll 1 10: frame 0 2500000000c001000000000008000000e90300002a0000000000000000000000776f726c64
+follows frame 64 2500000000c001004000000008000000e90300002a0000000000000000000000776f726c64
+follows more 128
+";
+
+/// What two publications recorded at a time is each one's own, byte for byte.
+#[test]
+fn each_publication_is_recorded_as_its_own(rt: HostRuntime) -> Result<(), Fail> {
+    converses(&rt, rt.alloc(), receiver(), IN_TURN)
+}
+
 /// Frames from a second socket don't keep an image.
 const STRANGERS: &str = "\
 casts SETUP

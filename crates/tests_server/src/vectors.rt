@@ -76,6 +76,20 @@ const NAK_AT_128: &[u8] = &[
     0,
 ];
 
+/// The setup frame of session id 8.
+const SETUP_OF_8: &[u8] = &[
+    0x28, 0, 0, 0, 0, 0, 5, 0, 0, 0, 0, 0, 8, 0, 0, 0, 0xe9, 3, 0, 0, 0x2a, 0, 0, 0, 0x2a, 0, 0, 0,
+    0, 0, 1, 0, 0x80, 5, 0, 0, 0, 0, 0, 0,
+];
+
+/// `world` of session id 8, term 42, offset 0.
+const WORLD_OF_8_AT_0: &[u8] =
+    b"\x25\0\0\0\0\xc0\x01\0\0\0\0\0\x08\0\0\0\xe9\x03\0\0\x2a\0\0\0\0\0\0\0\0\0\0\0world";
+
+/// `world` of session id 8, term 42, offset 64.
+const WORLD_OF_8_AT_64: &[u8] =
+    b"\x25\0\0\0\0\xc0\x01\0\x40\0\0\0\x08\0\0\0\xe9\x03\0\0\x2a\0\0\0\0\0\0\0\0\0\0\0world";
+
 /// The setup frame of a session id.
 pub(crate) fn setup_of(session_id: u8) -> [u8; 40] {
     let mut frame = [0; 40];
@@ -221,7 +235,7 @@ const NAK_OF_PAD: &[u8] = &[
 ];
 
 /// The datagrams that conversations name.
-const DATAGRAMS: [(&'static str, &'static [u8]); 34] = [
+const DATAGRAMS: [(&'static str, &'static [u8]); 37] = [
     ("HELLO_AT_0", HELLO_AT_0),
     ("HELLO_AT_64", HELLO_AT_64),
     ("HELLO_AT_64_CUT_OFF", HELLO_AT_64_CUT_OFF),
@@ -233,6 +247,9 @@ const DATAGRAMS: [(&'static str, &'static [u8]); 34] = [
     ("HELLO_LATER", HELLO_LATER),
     ("SETUP", SETUP),
     ("SETUP_CUT_OFF", SETUP_CUT_OFF),
+    ("SETUP_OF_8", SETUP_OF_8),
+    ("WORLD_OF_8_AT_0", WORLD_OF_8_AT_0),
+    ("WORLD_OF_8_AT_64", WORLD_OF_8_AT_64),
     ("SETUP_AT_TERM_END", SETUP_AT_TERM_END),
     ("SETUP_AT_64", SETUP_AT_64),
     ("SETUP_AT_192", SETUP_AT_192),
