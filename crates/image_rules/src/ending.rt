@@ -1,0 +1,87 @@
+//! The end of a publication, which its sender says by flags of its heartbeats: Aeron Transport Protocol Specification, "Data Frame".
+
+ghost use Rattle.std.specs.Prelude.{◌≡◌, ◌<◌, true, false};
+ghost use Rattle.image_rules.specs.Ending.{asks_for_setup, has_all, is_at_end, is_end, is_revoked, may_join};
+
+use frame_core::Geometry;
+
+/// The bit of a heartbeat's flags that says that the stream ends at its position.
+const END_OF_STREAM: u8 = 0x20;
+/// The bit that says, with the one above, that the publication is revoked: no frame of it comes any more.
+const REVOKED: u8 = 0x10;
+/// Milliseconds after an end in which a publication may linger.
+pub const LINGER: u64 = 10_000;
+/// Milliseconds without a heartbeat that says the end after which the publication may begin again there.
+const SILENT: u64 = 300;
+
+/// What the flags of a heartbeat say of its publication.
+#[derive(Clone, Copy, Debug, PartialEq, Eq)]
+pub struct EndingFlags {
+    /// The stream ends at the heartbeat's position.
+    pub is_end: bool,
+    /// The publication is gone at once: an image of it leaves with what is whole.
+    pub is_revoked: bool,
+}
+
+impl EndingFlags {
+    /// What flags say. Does not allocate.
+    pub fn of(flags: u8) -> EndingFlags
+        ensures end { result.is_end ≡ is_end flags }
+        ensures revoked { result.is_revoked ≡ is_revoked flags }
+    {
+        let is_end = flags & END_OF_STREAM != 0;
+        EndingFlags {
+            is_end,
+            is_revoked: is_end && flags & REVOKED != 0,
+        }
+    }
+}
+
+/// Whether an image has all of a stream that ends at a position: that is its rebuild position, and no frame is further on. Does not
+/// allocate.
+pub fn has_all(end: i64, rebuilt: i64, mark: i64) -> bool
+    ensures { result ≡ has_all end rebuilt mark }
+{
+    end == rebuilt && end == mark
+}
+
+/// A publication that ended, with all of it received.
+#[derive(Clone, Copy, Debug, PartialEq, Eq)]
+pub struct EndedPublication {
+    /// Its terms.
+    pub geometry: Geometry,
+    /// Where it ended, in bytes of the stream.
+    pub position: i64,
+    /// When its image left, in milliseconds.
+    pub at: u64,
+    /// When a heartbeat came last that says the end, in milliseconds.
+    pub heard: u64,
+}
+
+impl EndedPublication {
+    /// Whether frames of it bring a request for a setup frame: not heartbeats that say the end, for 10 seconds. Does not allocate.
+    pub fn asks_for_setup(&self, says_end: bool, now: u64) -> bool
+        ensures { result ≡ asks_for_setup says_end now self.now }
+    {
+        !says_end || LINGER <= now.saturating_sub(self.at)
+    }
+
+    /// Whether a setup frame of it at a position joins: one with its terms where it ended has to wait, in these 10 seconds, until no
+    /// heartbeat said the end for 300 milliseconds. Does not allocate.
+    pub fn may_join(&self, geometry: &Geometry, position: i64, now: u64) -> bool
+        ensures { result ≡ may_join geometry.now position now self.now }
+    {
+        !self.is_at_end(geometry, position)
+            || LINGER <= now.saturating_sub(self.at)
+            || SILENT <= now.saturating_sub(self.heard)
+    }
+
+    fn is_at_end(&self, geometry: &Geometry, position: i64) -> bool
+        ensures { result ≡ is_at_end geometry.now position self.now }
+    {
+        self.position == position
+            && self.geometry.initial_term_id == geometry.initial_term_id
+            && self.geometry.term_length == geometry.term_length
+            && self.geometry.mtu == geometry.mtu
+    }
+}
