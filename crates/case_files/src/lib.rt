@@ -7,5 +7,6 @@ mod playing;
 mod running;
 mod steps;
 
-pub use playing::{Player, play_text};
+pub use playing::{Player, Wrong, play_text};
 pub use running::play_files;
+pub use steps::Step;

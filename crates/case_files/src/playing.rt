@@ -13,6 +13,27 @@ pub trait Player {
 
     /// What a line is answered: lines, each with its line feed.
     fn answer(&mut self, alloc: Global, line: &str) -> Result<Vec<u8>, AllocError>;
+
+    /// Plays the steps of a run, up to the first one that is answered otherwise, and returns that one if there is one. A player that
+    /// has to hold something over several steps has a function of its own here.
+    fn play(&mut self, alloc: Global, steps: &[Step]) -> Result<Option<Wrong>, AllocError> {
+        for (index, step) in steps.iter().enumerate() {
+            let answer = self.answer(alloc, step.line())?;
+            if answer.as_slice() != step.awaited().as_bytes() {
+                return Ok(Some(Wrong { index, answer }));
+            }
+        }
+        Ok(None)
+    }
+}
+
+/// A step that was answered otherwise than it says.
+#[derive(Drop)]
+pub struct Wrong {
+    /// Its index among the steps of its run.
+    pub index: usize,
+    /// What it was answered.
+    pub answer: Vec<u8>,
 }
 
 /// A file of cases.
@@ -126,14 +147,16 @@ fn play_run<P: Player, E: Write>(
 ) -> io::Result<bool> {
     let steps = steps_of(alloc, file.paragraphs.as_slice(), case, words)?;
     player.begin(alloc)?;
-    for step in steps.as_slice() {
-        let answer = player.answer(alloc, step.line.as_str())?;
-        if answer.as_slice() != step.awaited.as_bytes() {
-            report(file.name, step, answer.as_slice(), faults)?;
-            return Ok(false);
+    let wrong = player.play(alloc, steps.as_slice())?;
+    match &wrong {
+        Some(Wrong { index, answer }) => {
+            if let Some(step) = steps.as_slice().get(*index) {
+                report(file.name, step, answer.as_slice(), faults)?;
+            }
+            Ok(false)
         }
+        None => Ok(!steps.is_empty()),
     }
-    Ok(!steps.is_empty())
 }
 
 /// Reports an answer that is another one than the step's.
@@ -142,6 +165,8 @@ fn report<E: Write>(name: &str, step: &Step, answer: &[u8], faults: &mut E) -> i
     writeln!(
         faults,
         "{name}:{}: {}\n  awaited: {:?}\n  got:     {got:?}",
-        step.number, step.line, step.awaited
+        step.number(),
+        step.line(),
+        step.awaited()
     )
 }

@@ -9,16 +9,28 @@ const HEADS: [&str; 6] = ["#", "case ", "text ", "- ", "each ", "and "];
 
 /// A step of a case.
 #[derive(Drop)]
-pub(crate) struct Step {
-    /// The number of its line in the file.
-    pub number: usize,
-    /// The line that is asked.
-    pub line: String,
-    /// What that has to be answered: lines, each with its line feed.
-    pub awaited: String,
+pub struct Step {
+    number: usize,
+    line: String,
+    awaited: String,
 }
 
 impl Step {
+    /// The number of its line in the file, from 1 on.
+    pub fn number(&self) -> usize {
+        self.number
+    }
+
+    /// The line that is asked.
+    pub fn line(&self) -> &str {
+        self.line.as_str()
+    }
+
+    /// What that has to be answered: lines, each with its line feed.
+    pub fn awaited(&self) -> &str {
+        self.awaited.as_str()
+    }
+
     /// The step of a line, which may have an answer of one line.
     fn new(alloc: Global, number: usize, line: &str, words: &[Word<'_>]) -> Result<Step, AllocError> {
         let mut step = Step {
