@@ -1,6 +1,6 @@
 -- Which signs show another publication.
 use Rattle.std.proofs.Common.{◌≡◌, ℕ, ◌+◌, ◌-◌, ◌≤◌, ◌⊎◌, inl, inr, ⊎_elim, Bool, true, false, List, [], ◌∷◌, sym, refl, ap, ◌∙◌, subst, arith}
-use Rattle.std.specs.Prelude.{◌×◌, Option, Some, None, not, ◌||◌, ◌&&◌, nat_le, if◌then◌else◌}
+use Rattle.std.specs.Prelude.{Option, Some, None, not, ◌||◌, ◌&&◌, nat_le, if◌then◌else◌}
 use Rattle.std.proofs.lemmas.Bool.Decides.{nat_tests}
 use Rattle.image_rules.specs.declared.signs.Sign.{Sign}
 use Rattle.image_rules.specs.declared.signs.Sign.TheVariants.{Heartbeat, Repeats, Setup}
@@ -42,19 +42,20 @@ repeats_says Heartbeat says = absurd (cc)
 repeats_says Repeats says = refl
 
 -- the parts of a test that is passed
-parts : (a b c d : Bool) → (a && (b || (c || d))) ≡ true → (a ≡ true) × ((b ≡ true) ⊎ ((c ≡ true) ⊎ (d ≡ true)))
+parts : (a b c d : Bool) → (a && ((b || c) || d)) ≡ true → (a ≡ true) × ((b ≡ true) ⊎ ((c ≡ true) ⊎ (d ≡ true)))
 parts true true c d e = (refl, inl refl)
 parts true false true d e = (refl, inr (inl refl))
 parts true false false true e = (refl, inr (inr refl))
 parts true false false false e = absurd (cc)
 parts false b c d e = absurd (cc)
 
-shows : (q : Question) (s : Sign) (time : ℕ) → (is_open_at time q && decides s time q) ≡ true → ShowAnother (sign_of q) (record { sign = s; time = time })
+shows : (q : Question) (s : Sign) (time : ℕ) → (nat_le (time - q.since) 300 && ((not (is_same_kind s q.first) || is_repeats s) || nat_le 100 (time - q.since))) ≡ true → ShowAnother (sign_of q) (record { sign = s; time = time })
 shows q s time e =
-    let p = parts (nat_le (time - q.since) 300) (not (is_same_kind s q.first)) (is_repeats s) (nat_le 100 (time - q.since)) e in
-    (nat_le_says (time - q.since) 300 p.0,
+    let p = parts (nat_le (time - q.since) 300) (not (is_same_kind s q.first)) (is_repeats s) (nat_le 100 (time - q.since)) e in (
+      nat_le_says (time - q.since) 300 p.0,
       ⊎_elim (λ n. inl (not_says (is_same_kind s q.first) n))
-      (λ more. ⊎_elim (λ r. inr (inl (repeats_says s r))) (λ l. inr (inr (nat_le_says 100 (time - q.since) l))) more) p.1)
+          (λ more. ⊎_elim (λ r. inr (inl (repeats_says s r))) (λ l. inr (inr (nat_le_says 100 (time - q.since) l))) more) p.1,
+    )
 
 -- a question that a sign decides, and that it does
 record IsShown (o : Option Question) (s : Sign) (time : ℕ) : Type 0 where

@@ -1,16 +1,16 @@
 -- The end of a publication: Aeron Transport Protocol Specification, "Data Frame"; docs/PROTOCOL.md, "Whose frames an image takes".
-use Rattle.std.specs.Prelude.{◌-◌, ◌/◌, ◌%◌, ◌==◌, ◌&&◌, ◌||◌, ℕ, ℤ, nat_le, not, Bool}
+use Rattle.std.specs.Prelude.{◌-◌, ◌==◌, ◌&&◌, ◌||◌, ℕ, ℤ, bit_and, nat_le, not, Bool}
 use Rattle.std.specs.Ordering.{int_eq}
 use Rattle.frame_core.specs.declared.geometry.Geometry.{Geometry}
 use Rattle.image_rules.specs.declared.ending.EndedPublication.{EndedPublication}
 
 -- the bit 0x20 of a heartbeat's flags: the stream ends at its position
 abbrev pub is_end : ℕ → Bool
-is_end flags = flags / 32 % 2 == 1
+is_end flags = not (bit_and flags 32 == 0)
 
 -- and the bit 0x10 with it: no frame of the publication comes any more
 abbrev pub is_revoked : ℕ → Bool
-is_revoked flags = is_end flags && flags / 16 % 2 == 1
+is_revoked flags = is_end flags && not (bit_and flags 16 == 0)
 
 -- an image has all of a stream that ends at a position: that is its rebuild position, and its mark
 abbrev pub has_all : ℤ → ℤ → ℤ → Bool
@@ -20,11 +20,13 @@ has_all end rebuilt mark = int_eq end rebuilt && int_eq end mark
 abbrev pub asks_for_setup : Bool → ℕ → EndedPublication → Bool
 asks_for_setup says_end time e = not says_end || nat_le 10000 (time - e.at)
 
+-- two publications have the same terms
+abbrev pub has_terms : Geometry → Geometry → Bool
+has_terms g h = int_eq g.initial_term_id h.initial_term_id && int_eq g.term_length h.term_length && int_eq g.mtu h.mtu
+
 -- a setup frame has the terms of a publication that ended, and its position is the end
 abbrev pub is_at_end : Geometry → ℤ → EndedPublication → Bool
-is_at_end g position e =
-    int_eq e.position position && int_eq e.geometry.initial_term_id g.initial_term_id && int_eq e.geometry.term_length g.term_length
-    && int_eq e.geometry.mtu g.mtu
+is_at_end g position e = int_eq e.position position && has_terms e.geometry g
 
 -- a setup frame joins: not at the end, or 10,000 milliseconds later, or once no heartbeat said the end for 300 milliseconds
 abbrev pub may_join : Geometry → ℤ → ℕ → EndedPublication → Bool

@@ -1,5 +1,5 @@
 -- When an image is in question, and when its publication is another one: docs/PROTOCOL.md, "Whose frames an image takes".
-use Rattle.std.specs.Prelude.{◌≡◌, ◌≢◌, ◌⊎◌, ◌×◌, ◌≤◌, ◌+◌, ◌-◌, ◌&&◌, ◌||◌, ◌++◌, ℕ, nat_le, not, Bool, true, false, List, [], ◌∷◌, Option, None, Some, if◌then◌else◌}
+use Rattle.std.specs.Prelude.{◌≡◌, ◌≢◌, ◌⊎◌, ◌≤◌, ◌+◌, ◌-◌, ◌&&◌, ◌||◌, ◌++◌, ℕ, nat_le, not, Bool, true, false, List, [], ◌∷◌, Option, None, Some, if◌then◌else◌}
 use Rattle.image_rules.specs.declared.signs.Sign.{Sign}
 use Rattle.image_rules.specs.declared.signs.Sign.TheVariants.{Heartbeat, Repeats, Setup}
 use Rattle.image_rules.specs.declared.questions.Question.{Question}

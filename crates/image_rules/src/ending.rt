@@ -1,7 +1,7 @@
 //! The end of a publication, which its sender says by flags of its heartbeats: Aeron Transport Protocol Specification, "Data Frame".
 
 ghost use Rattle.std.specs.Prelude.{◌≡◌, ◌<◌, true, false};
-ghost use Rattle.image_rules.specs.Ending.{asks_for_setup, has_all, is_at_end, is_end, is_revoked, may_join};
+ghost use Rattle.image_rules.specs.Ending.{asks_for_setup, has_all, has_terms, is_at_end, is_end, is_revoked, may_join};
 
 use frame_core::Geometry;
 
@@ -79,9 +79,15 @@ impl EndedPublication {
     fn is_at_end(&self, geometry: &Geometry, position: i64) -> bool
         ensures { result ≡ is_at_end geometry.now position self.now }
     {
-        self.position == position
-            && self.geometry.initial_term_id == geometry.initial_term_id
-            && self.geometry.term_length == geometry.term_length
-            && self.geometry.mtu == geometry.mtu
+        self.position == position && has_terms(&self.geometry, geometry)
     }
+}
+
+/// Whether two publications have the same terms. Does not allocate.
+pub fn has_terms(one: &Geometry, other: &Geometry) -> bool
+    ensures { result ≡ has_terms one.now other.now }
+{
+    one.initial_term_id == other.initial_term_id
+        && one.term_length == other.term_length
+        && one.mtu == other.mtu
 }

@@ -1,6 +1,6 @@
 //! Laws of the definitions, each the contract of a function that does nothing.
 
-ghost use Rattle.std.specs.Prelude.{◌≡◌, ◌≤◌, ◌+◌, ◌⊎◌, ◌×◌, ◌∷◌, [], ℕ, List, Bool, Some, None, true, false};
+ghost use Rattle.std.specs.Prelude.{◌≡◌, ◌≤◌, ◌+◌, ◌⊎◌, ◌∷◌, [], ℕ, List, Bool, Some, None, true, false};
 ghost use Rattle.image_rules.specs.Questions.{Coming, Has, ShowAnother, after_sign, after_signs, is_another, is_decided_by};
 ghost use Rattle.image_rules.specs.declared.questions.Doubt.{Doubt};
 ghost use Rattle.image_rules.specs.declared.questions.Question.{Question};

@@ -1,7 +1,7 @@
 //! Whether an image is in question, and when its publication is another one. One sign may be a late duplicate, so it takes two.
 
 ghost use Rattle.std.specs.Prelude.{◌≡◌, None};
-ghost use Rattle.image_rules.specs.Questions.{after_sign, decides, is_another, is_asked_by, is_in_question, is_open_at, may_ask, next_question};
+ghost use Rattle.image_rules.specs.Questions.{after_sign, decides, is_another, is_in_question, is_open_at, may_ask};
 
 use crate::signs::Sign;
 

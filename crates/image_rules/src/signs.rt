@@ -1,10 +1,11 @@
 //! Signs that frames from an image's address are another publication's. The sender's setup frames and heartbeats name its own
 //! position, so neither ever stands before the end of the furthest frame that came of it.
 
-ghost use Rattle.std.specs.Prelude.{◌≡◌, ◌<ℤ◌, Some, MatchBool};
+ghost use Rattle.std.specs.Prelude.{◌≡◌, None, MatchBool};
 ghost use Rattle.frame_core.specs.Setup.{IsUsable};
 ghost use Rattle.image_rules.specs.Signs.{IsSetupSign, after_unasked, is_heartbeat_sign, is_third};
 
+use crate::ending::has_terms;
 use frame_core::{Geometry, Setup};
 
 /// Milliseconds in which nothing else of a publication came before a heartbeat that is a sign.
@@ -25,12 +26,16 @@ pub enum Sign {
 
 /// Whether a setup frame is a sign: it has other terms than the image, or its position is before the mark. The mark is the end of
 /// the furthest frame that the image received, in bytes of the stream. Does not allocate.
+#[tactic(auto, using(frame_core::proofs::SetupLemmas::one_join))]
 pub fn is_setup_sign(geometry: &Geometry, mark: i64, setup: &Setup) -> bool
     requires usable { IsUsable setup.now }
     ensures { MatchBool result (IsSetupSign geometry.now mark setup.now) (IsSetupSign geometry.now mark setup.now → ⊥) }
 {
+    if !has_terms(&setup.geometry(), geometry) {
+        return true;
+    }
     match setup.join_position() {
-        Some(position) => setup.geometry() != *geometry || position < mark,
+        Some(position) => position < mark,
         None => true,
     }
 }
