@@ -129,8 +129,8 @@ def faults(edits: Edits, old: Edits) -> Iterator[str]:
         yield f"{it}: its line is not current" if it in lines else f"{it}: it has no line"
     for it in sorted({*lines} - {*names_of(edits)}):
         yield f"{it}: it has a line, and there is no such recorded edit"
-    if not RECORD.is_file() or RECORD.read_text(encoding="utf-8") != text_of(lines):
-        yield "its text is not one that tools/edits.py writes"
+    if RECORD.is_file() and RECORD.read_text(encoding="utf-8") != text_of(lines):
+        yield "its text is not what tools/edits.py writes"
 
 
 def ask_record() -> int:

@@ -24,9 +24,9 @@ refused it over the same files.
 
 With --beside the sample begins once `rt ci` has printed of each crate that the sample needs that it is proved or kept. Earlier, both
 runs would prove the same crates. Later, after `rt ci`, the gate would take minutes longer. Beside `rt ci` the sample uses processors
-that are idle, since it makes one check at a time, at the lowest priority. If tools/jobs.py prints nothing, or 1, memory is short,
-and the sample begins after `rt ci`. If `rt ci` fails before the sample begins, no edit is tried. The lines of the sample come before the last
-line of `rt ci`; if an edit is not refused, they come after it.
+that are idle, since it makes one check at a time, at the lowest priority. If tools/jobs.py prints nothing, or 1, memory is short, and
+the sample begins after `rt ci`. If `rt ci` fails before the sample begins, no edit is tried. The lines of the sample come before the
+last line of `rt ci`; if an edit is not refused, they come after it.
 """
 import argparse
 import hashlib
@@ -136,7 +136,7 @@ def verdicts(said: str) -> dict[str, str]:
     for line in said.splitlines():
         if head := VERDICT.match(line):
             name, found[head[1]] = head[1], head[2]
-        elif line.startswith("rt: "):
+        elif line.startswith("rt: ") or END.match(line):
             name = ""
         elif name:
             found[name] += f"\n  {line}"
@@ -275,12 +275,17 @@ def sampled(count: int) -> Edits:
     return by_crate(sorted(mixed[:count]))
 
 
+def lines_of(edits: Edits, tried: Tried) -> str:
+    """What is printed of a sample."""
+    return f"{tried.said}A sample of the recorded edits: {summary(edits, tried.failed)}"
+
+
 def sample(count: int) -> int:
     """Tries a sample."""
     edits = sampled(count)
     with tempfile.TemporaryDirectory(prefix="edits-") as room:
         tried = Trial(edits, Path(room) / "copy").run()
-    print(tried.said + summary(edits, tried.failed), end="")
+    print(lines_of(edits, tried), end="")
     return 1 if tried.failed else 0
 
 
@@ -289,7 +294,8 @@ def sample_beside(count: int) -> int:
     for it in (sys.stdin, sys.stdout):
         it.reconfigure(encoding="utf-8", errors="surrogateescape")
     with tempfile.TemporaryDirectory(prefix="edits-") as room, ThreadPoolExecutor(1) as pool:
-        trial, has_memory = Trial(sampled(count), Path(room) / "copy"), (jobs() or 1) > 1
+        edits, has_memory = sampled(count), (jobs() or 1) > 1
+        trial = Trial(edits, Path(room) / "copy")
         running: Future | None = None
         lacking, last = {*trial.crates}, ""
         for line in sys.stdin:
@@ -301,10 +307,11 @@ def sample_beside(count: int) -> int:
             last = line if END.match(line) else ""
             if not last:
                 print(line, end="", flush=True)
-        tried = running.result() if running else Tried("rt ci failed before, so no recorded edit was tried\n", 0)
-    lines = [tried.said, last]
-    print("".join(reversed(lines) if tried.failed else lines), end="")
-    return 1 if tried.failed else 0
+        tried = running.result() if running else None
+    said = lines_of(edits, tried) if tried else "rt ci failed before a recorded edit was tried\n"
+    failed = tried.failed if tried else 0
+    print(last + said if failed else said + last, end="")
+    return 1 if failed else 0
 
 
 def asked() -> argparse.Namespace:
