@@ -36,11 +36,7 @@ fn counted(alloc: Global, count: u64) -> Result<Vec<u8>, Refusal> {
 }
 
 /// What the archive replies to an event.
-fn step(
-    alloc: Global,
-    archive: &mut Engine<MemoryDisk>,
-    event: &Event,
-) -> Result<Reply, Refusal> {
+fn step(alloc: Global, archive: &mut Engine<MemoryDisk>, event: &Event) -> Result<Reply, Refusal> {
     archive.step(alloc, event)
 }
 
