@@ -4,7 +4,7 @@
 Usage: tools/names.py   reads docs/ARCHITECTURE.md, docs/GUARANTEES.md and the crates' READMEs, and prints each name in backquotes
 that no crate has; status 1 if there is one
 A name is a piece of code that is an identifier, or several with `::` or `.` between. Each of its words has to be a crate, a file of
-`src/`, `specs/` or `proofs/`, or a word of code there; comments do not count. What is a command, a line or a path is not asked.
+`src/`, `specs/`, `proofs/` or of cases, or a word of code there; comments do not count. What is a command, a line or a path is not asked.
 `OTHERS` has the words that are of the system or of files beside the crates.
 """
 import re
@@ -16,6 +16,7 @@ from repository import ROOT, dependencies
 
 PAGES = [ROOT / "docs/ARCHITECTURE.md", ROOT / "docs/GUARANTEES.md", *sorted((ROOT / "crates").glob("*/README.md"))]
 OTHERS = frozenset("HANDLES KIND crates txt fdatasync fsync statx stdin".split())
+MARKS = {".rt": "//", ".antt": "--", ".cases": "#"}
 FENCED = re.compile(r"^```.*?^```", re.M | re.S)
 CODE = re.compile(r"(?<!`)`([^`\n]+)`(?!`)")
 PATH = re.compile(r"(?:crates|docs|tools|trials|bench|examples)/[\w./-]+")
@@ -25,7 +26,7 @@ NAME = re.compile(r"[A-Za-z_]\w*(?:(?:::|\.)[A-Za-z_]\w*)*(?:\(\))?")
 
 def words_of(path: Path) -> set[str]:
     """The words of a file's code, and the file's own name."""
-    mark = "//" if path.suffix == ".rt" else "--"
+    mark = MARKS[path.suffix]
     code = re.sub(rf"{mark}.*", "", path.read_text())
     return {path.stem, path.parent.name, *re.findall(r"\w+", code)}
 
@@ -33,7 +34,7 @@ def words_of(path: Path) -> set[str]:
 def known() -> set[str]:
     """Each word of the crates' code, and what `OTHERS` has."""
     found = {*OTHERS, *dependencies()}
-    for part in ("src/**/*.rt", "specs/**/*.antt", "proofs/**/*.antt"):
+    for part in ("src/**/*.rt", "specs/**/*.antt", "proofs/**/*.antt", "data/*.cases"):
         for path in ROOT.glob(f"crates/*/{part}"):
             found |= words_of(path)
     return found

@@ -1,15 +1,17 @@
 #!/usr/bin/env python3
-"""Prints docs/SCENARIOS.md: the tests of the crates of tests, each with its name and its doc comment.
+"""Prints docs/SCENARIOS.md: the tests and the cases of the crates of tests, each with its name and its sentence.
 
-Usage: tools/scenarios.py           says whether docs/SCENARIOS.md is what --print prints, and how many tests have no comment;
+Usage: tools/scenarios.py           says whether docs/SCENARIOS.md is what --print prints, and how many tests have no sentence;
                                     status 1 if it is not
        tools/scenarios.py --print   prints docs/SCENARIOS.md
-A crate of tests is one of `crates/tests_*`; a file's sentence is its `//!` comment, and a test's its `///` comment.
+A crate of tests is one of `crates/tests_*`. A module's sentence is its `//!` comment, and a test's its `///` comment. A file of cases
+begins with its own sentence (`# ..`), and a case has one in its lines `- ..`.
 """
 import re
 import sys
 from typing import NamedTuple
 
+import cases
 from repository import ROOT, dependencies
 
 SCENARIOS = ROOT / "docs/SCENARIOS.md"
@@ -19,16 +21,26 @@ HEAD_OF_PAGE = """\
 # Scenarios
 
 For those who check tests: what is tried. Expected values were typed from the rules, not taken from the program. Only the texts of
-help and usage are clap's. This page is printed by `tools/scenarios.py --print` from `crates/tests_*/src`, so change a comment there.
+help and usage are clap's. This page is printed by `tools/scenarios.py --print` from `crates/tests_*/src` and `crates/tests_*/data`, so
+change a sentence there.
 
-{tests} tests in {crates} crates; {bare} of them are named without a sentence. The lines, calls and answers of a scenario are in its
-test. Frames that tests name are in docs/PROTOCOL.md, "Vectors". What is tried outside `rt ci`: [trials](../trials/README.md).
+{tests} tests and {cases} cases in {crates} crates; {bare} of them are named without a sentence. The lines, calls and answers of a
+scenario are in its test or case. A case with rows is played once for each. Frames that tests name are in docs/PROTOCOL.md, "Vectors".
+What is tried outside `rt ci`: [trials](../trials/README.md).
 """
 
 
 class Test(NamedTuple):
     name: str
     sentence: str
+
+
+class Section(NamedTuple):
+    """A module of tests or a file of cases: its name, its sentence and what it asks."""
+
+    name: str
+    head: str
+    tests: list[Test]
 
 
 def comment(lines: list[str], mark: str) -> str:
@@ -61,25 +73,43 @@ def head_of(text: str) -> str:
     return comment(lines, "//!")
 
 
-def files_of(crate: str) -> list[tuple[str, str, list[Test]]]:
-    """The files of a crate that have tests: each one's module, its sentence and its tests."""
+def modules_of(crate: str) -> list[Section]:
+    """The modules of a crate that have tests."""
     folder = ROOT / "crates" / crate / "src"
     texts = [(path.relative_to(folder).with_suffix("").as_posix(), path.read_text()) for path in sorted(folder.glob("**/*.rt"))]
-    return [(name.replace("/", "::"), head_of(text), tests) for name, text in texts if (tests := tests_of(text))]
+    return [Section(name.replace("/", "::"), head_of(text), tests) for name, text in texts if (tests := tests_of(text))]
+
+
+def case_files_of(crate: str) -> list[Section]:
+    """The files of cases of a crate."""
+    return [Section(it.name, it.head, [Test(case.name, case.sentence) for case in it.cases]) for it in cases.files_of(crate)]
+
+
+def lines_of(crate: str, section: Section) -> list[str]:
+    """The lines of a section."""
+    head = [section.head, ""] if section.head else []
+    tests = [f"- `{it.name}`{': ' if it.sentence else ''}{it.sentence}" for it in section.tests]
+    return ["", f"### {section.name} ({crate})", "", *head, *tests]
+
+
+def tests_in(sections: list[Section]) -> list[Test]:
+    """All tests or cases of sections."""
+    return [test for section in sections for test in section.tests]
 
 
 def page() -> tuple[str, int, int]:
-    """docs/SCENARIOS.md, how many tests there are, and how many have no comment."""
-    crates = [(crate, files_of(crate)) for crate in dependencies() if crate.startswith("tests_")]
-    all_of = [test for _, files in crates for _, _, tests in files for test in tests]
-    bare = sum(not it.sentence for it in all_of)
-    lines = [HEAD_OF_PAGE.format(tests=len(all_of), crates=len(crates), bare=bare).rstrip()]
-    for crate, files in crates:
+    """docs/SCENARIOS.md, how many tests and cases there are, and how many have no sentence."""
+    crates = [it for it in dependencies() if it.startswith("tests_")]
+    modules, files = {it: modules_of(it) for it in crates}, {it: case_files_of(it) for it in crates}
+    tests = [test for it in crates for test in tests_in(modules[it])]
+    played = [test for it in crates for test in tests_in(files[it])]
+    bare = sum(not it.sentence for it in tests + played)
+    lines = [HEAD_OF_PAGE.format(tests=len(tests), cases=len(played), crates=len(crates), bare=bare).rstrip()]
+    for crate in crates:
         lines += ["", f"## {crate}"]
-        for name, head, tests in files:
-            lines += ["", f"### {name} ({crate})", "", *([head, ""] if head else [])]
-            lines += [f"- `{it.name}`{': ' if it.sentence else ''}{it.sentence}" for it in tests]
-    return "\n".join(lines) + "\n", len(all_of), bare
+        for section in modules[crate] + files[crate]:
+            lines += lines_of(crate, section)
+    return "\n".join(lines) + "\n", len(tests + played), bare
 
 
 def main() -> int:
@@ -90,7 +120,7 @@ def main() -> int:
     if sys.argv[1:]:
         sys.exit(__doc__)
     is_printed = SCENARIOS.exists() and SCENARIOS.read_text() == text
-    print(f"{tests} tests, {bare} of them without a comment")
+    print(f"{tests} tests and cases, {bare} of them without a sentence")
     print(f"docs/SCENARIOS.md is {'' if is_printed else 'not '}what this tool prints{'' if is_printed else HOW}")
     return 0 if is_printed else 1
 

@@ -12,7 +12,7 @@ use std::alloc::{AllocError, Global};
 pub const TERM: i64 = 65_536;
 
 /// A number of a line, 0 where there is none.
-pub fn number(word: Option<&str>) -> i64 {
+fn number(word: Option<&str>) -> i64 {
     match word {
         Some(word) => word.parse::<i64>().unwrap_or(-2),
         None => 0,
@@ -73,7 +73,6 @@ fn read(alloc: Global, line: &str) -> Result<Event, Refusal> {
 fn read_short(alloc: Global, word: &str, of: &str, at: i64) -> Result<Event, Refusal> {
     let line = match word {
         "start" => format!(in alloc; "start 1001 7 42 65536 1408 65536 {of} 1000 c")?,
-        "start-of-two" => format!(in alloc; "start 1001 7 42 65536 1408 131072 {of} 1000 c")?,
         "start-from" => {
             format!(in alloc; "start-from a:1 1001 7 42 65536 1408 65536 {of} 1000 c")?
         }
@@ -82,9 +81,9 @@ fn read_short(alloc: Global, word: &str, of: &str, at: i64) -> Result<Event, Ref
     read(alloc, line.as_str())
 }
 
-/// The call of a line. `start` has the position alone, `start-from` too, whose source is `a:1`, and `start-of-two`, whose segments
-/// have two terms. `extend` has the recording and the position. A session writes `hello` (`write`), `world` or a pad to its term's
-/// end at a position; `settle-all` settles several. The others are those of docs/CONTROL.md, "Lines".
+/// The call of a line. `start` has the position alone, and so has `start-from`, whose source is `a:1`. `extend` has the recording and
+/// the position. A session writes `hello` (`write`), `world` or a pad to its term's end at a position; `settle-all` settles several. The
+/// others are those of docs/CONTROL.md, "Lines".
 pub fn event_in(alloc: Global, line: &str) -> Result<Event, Refusal> {
     let mut words = line.split(' ');
     let word = words.next().unwrap_or("");
@@ -95,7 +94,7 @@ pub fn event_in(alloc: Global, line: &str) -> Result<Event, Refusal> {
         "world" => write_at(alloc, number(Some(of)), at, b"world"),
         "pad" => write_at(alloc, number(Some(of)), at, b""),
         "settle-all" => settle_all(alloc, line),
-        "start" | "start-of-two" | "start-from" | "extend" => read_short(alloc, word, of, at),
+        "start" | "start-from" | "extend" => read_short(alloc, word, of, at),
         _ => read(alloc, line),
     }
 }

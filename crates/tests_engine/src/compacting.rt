@@ -132,7 +132,7 @@ fn each_two_leave(
 
 /// Plays the script, of whose text that is so.
 fn plays(rt: &impl Abort, alloc: Global, run: &mut Run) -> Result<(), Fail> {
-    play(alloc, run, "changes")?;
+    play(alloc, run, "fail-at 0")?;
     let text = text_of_book(alloc, &run.story.book)?;
     each_two_leave(rt, alloc, run.scene.disk(), text.as_slice())
 }

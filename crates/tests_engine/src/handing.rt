@@ -84,7 +84,7 @@ fn is_handed(
 
 /// Polls of an archive that has three frames are answered so, and hand on these.
 fn polls(rt: &impl Abort, alloc: Global, scene: &mut Scene) -> Result<(), Fail> {
-    scene.run(alloc, REPLAYED, 8)?;
+    scene.run(alloc, REPLAYED)?;
     for (replay, max, limit, most, outcome) in [
         (7, 10, None, 9, "Err(UnknownReplay) []"),
         (0, 0, None, 9, "Err(BadParameter) []"),

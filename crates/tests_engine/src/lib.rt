@@ -1,4 +1,4 @@
-//! Tests of the archive on one thread: scenarios over stops, crashes and openings.
+//! Tests of the archive on one thread that are no cases of tests_scripts: by the plain book, by chance, with memory refused, over fakes.
 #![tactic(auto)]
 
 #[cfg(test)]
@@ -8,19 +8,11 @@ mod checkpoints;
 #[cfg(test)]
 mod compacting;
 #[cfg(test)]
-mod crashes;
-#[cfg(test)]
-mod damage;
-#[cfg(test)]
 mod groups;
 #[cfg(test)]
 mod handing;
 #[cfg(test)]
 mod merging;
-#[cfg(test)]
-mod openings;
-#[cfg(test)]
-mod pages;
 #[cfg(test)]
 mod random;
 #[cfg(test)]
@@ -29,8 +21,6 @@ mod reference;
 mod refused;
 #[cfg(test)]
 mod runs;
-#[cfg(test)]
-mod scenarios;
 #[cfg(test)]
 mod scene;
 #[cfg(test)]

@@ -56,7 +56,7 @@ fn frames_of(reply: Reply) -> Result<Vec<PolledFrame>, Refusal> {
 
 /// The frames that the replay of an archive gives, which recorded `hello` at 0 and 64.
 fn polled(alloc: Global, scene: &mut Scene) -> Result<Vec<PolledFrame>, Refusal> {
-    scene.run(alloc, RECORDED, 7)?;
+    scene.run(alloc, RECORDED)?;
     frames_of(scene.step(alloc, &Event::ReplayPoll { replay: 0, max: 10 })?)
 }
 

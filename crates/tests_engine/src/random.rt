@@ -133,7 +133,7 @@ fn is_kept(alloc: Global, run: &mut Run) -> Result<bool, Refusal> {
     compactions_leave(alloc, run.scene.disk(), text.as_slice())
 }
 
-/// Whether that is so behind 60 calls by chance. The archive is compacted then, and goes on.
+/// Whether that is so after 60 calls by chance. The archive is compacted then, and goes on.
 fn round_survived(alloc: Global, run: &mut Run, dice: &mut Dice) -> Result<bool, Refusal> {
     for _ in 0..60 {
         make_call(alloc, run, dice, "write")?;
@@ -255,7 +255,7 @@ fn call_or_go_back(
     }
 }
 
-/// Whether a replay gives these frames, behind which it is done; it may also go on.
+/// Whether a replay gives these frames, and is then done; it may also go on.
 fn is_same(text: &[u8], frames: &[u8]) -> bool {
     let frames = frames.strip_suffix(b"done\n").unwrap_or(frames);
     match text.strip_prefix(frames) {

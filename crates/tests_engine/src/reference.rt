@@ -1,4 +1,4 @@
-//! The plain book beside an archive: what it makes of the same events, and both as text.
+//! The plain book next to an archive: what it makes of the same events, and both as text.
 
 use archive_model::{Command, Descriptor, Reply};
 use control_core::{Event, Request};
@@ -196,14 +196,14 @@ fn listed(alloc: Global, book: &Book) -> Result<Vec<u8>, Refusal> {
     print_reply(alloc, &Reply::Recordings(descriptors))
 }
 
-/// The frames of a whole recording of the book, and behind them that a replay of it is done.
+/// The frames of a whole recording of the book, and then that a replay of it is done.
 pub fn polled(alloc: Global, recording: &Recording) -> Result<Vec<u8>, Refusal> {
     let start = recording.descriptor().start_position;
     let frames = recording.poll(alloc, &start, &LAST_NUMBER, 4_096)?;
     print_reply(alloc, &Reply::Polled { frames, next: None })
 }
 
-/// The descriptors of a book once each recording has stopped, and behind them the frames of each.
+/// The descriptors of a book once each recording has stopped, and then the frames of each.
 pub fn text_of_book(alloc: Global, book: &Book) -> Result<Vec<u8>, Refusal> {
     let mut text = listed(alloc, book)?;
     for recording in book.recordings() {

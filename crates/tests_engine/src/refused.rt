@@ -144,9 +144,8 @@ fn rows_answered(rt: &impl Abort, alloc: Global, scene: &mut Scene) -> Result<us
 
 /// What the archive knows once it is opened again after so many rows.
 fn place_after(rows: usize) -> Option<Place> {
-    let (_, _, _, place) = SCRIPT.get(rows.wrapping_sub(1))?;
-    let (timestamp, start, recorded, _, frames) = *place;
-    Some((timestamp, start, recorded, recorded, frames))
+    let (_, _, place) = SCRIPT.get(rows.wrapping_sub(1))?;
+    Some(*place)
 }
 
 /// Whether these are the recordings of the archive.

@@ -1,15 +1,13 @@
 //! A disk and the archive that is open on it, in a script: calls as `calls` has them, and what is done to the disk. docs/STORAGE.md.
 
-use crate::calls::{answer, event_in, number, refused, told};
+use crate::calls::{answer, event_in, refused, told};
 use archive_model::Reply;
 use catalogue_log::open;
 use control_core::Event;
-use disk_core::{Disk, FileId, MemoryDisk};
+use disk_core::MemoryDisk;
 use engine_core::{Engine, OpenRefusal, compact};
 use frame_core::Refusal;
 use std::alloc::Global;
-use std::process::Abort;
-use std::test::Fail;
 
 /// A disk, or the archive that is open on it.
 #[derive(Drop)]
@@ -113,63 +111,24 @@ impl Scene {
         told(alloc, &self.step(alloc, &event)?)
     }
 
-    /// Makes an archive or a crash, compacts, or has a call of the disk fail or a file of it damaged.
+    /// Makes an archive, or has a call of the disk fail.
     fn order(&mut self, alloc: Global, word: &str, rest: &str) -> Result<(), Refusal> {
         let number = rest.parse::<u64>().unwrap_or(0);
         match word {
             "make" => return self.make(alloc, u32::try_from(number).unwrap_or(0)),
-            "crash" => return self.crash(u8::try_from(number).unwrap_or(0)),
-            "compact" => return compacts(alloc, self.disk()),
             "stop-after" => self.disk().stop_after(number),
-            "fail-at" => self.disk().fail_at(number),
-            _ => return damage(self.disk(), word, rest),
+            _ => self.disk().fail_at(number),
         }
         Ok(())
     }
 
-    /// Makes a new archive with room for so many entries, or opens the one of the disk: how many recordings that stopped, -1 of a new one.
-    fn begin(&mut self, alloc: Global, limit: u32) -> Result<i64, Refusal> {
-        match Engine::create_or_open(alloc, self.taken(alloc), limit) {
-            Ok((engine, stopped)) => {
-                self.archive = Some(engine);
-                Ok(stopped.unwrap_or(-1))
-            }
-            Err(OpenRefusal { refusal, disk }) => {
-                self.disk = disk;
-                Err(refusal)
-            }
-        }
-    }
-
-    /// How many recordings an opening stops, how many calls of the disk there were and how many of them change it; how many entries of
-    /// the history count, and 1 of an archive that is broken.
-    fn count(&mut self, alloc: Global, word: &str) -> Result<i64, Refusal> {
-        let count = match word {
-            "open" => return self.open(alloc),
-            "begin" => return self.begin(alloc, 100),
-            "calls" => self.disk().calls(),
-            "changes" => self.disk().changes(),
-            "entries" => self.archive()?.desk().counted(),
-            _ => u64::from(self.archive()?.desk().is_broken()),
-        };
-        Ok(i64::try_from(count).unwrap_or(-1))
-    }
-
-    /// What is answered to a line: a call of the archive, an order or a count. `calls`, `changes` and orders close the archive.
+    /// What is answered to a line: a call of the archive, or an order, which closes the archive.
     fn reply(&mut self, alloc: Global, line: &str) -> Result<Vec<u8>, Refusal> {
         let (word, rest) = line.split_once(' ').unwrap_or((line, ""));
         match word {
-            "make" | "crash" | "compact" | "stop-after" | "fail-at" | "cut" | "turn" | "remove" => {
+            "make" | "stop-after" | "fail-at" => {
                 self.order(alloc, word, rest)?;
                 Ok(Vec::from_slice(alloc, b"done\n")?)
-            }
-            "open" | "begin" | "calls" | "changes" | "entries" | "broken" => {
-                let count = self.count(alloc, word)?;
-                Ok(format!(in alloc; "{count}\n")?.into_bytes())
-            }
-            "catalogue" => {
-                let (epoch, counted) = catalogue_of(alloc, self.disk())?;
-                Ok(format!(in alloc; "{epoch} {counted}\n")?.into_bytes())
             }
             _ => self.call(alloc, line),
         }
@@ -183,20 +142,15 @@ impl Scene {
         }
     }
 
-    /// Obeys the first lines of a script, whatever is answered.
-    pub fn run(&mut self, alloc: Global, script: &str, most: usize) -> Result<(), Refusal> {
-        let mut left = most;
+    /// Obeys the lines of a script, whatever is answered.
+    pub fn run(&mut self, alloc: Global, script: &str) -> Result<(), Refusal> {
         for line in script.lines() {
-            if left == 0 {
-                break;
-            }
-            left = left.wrapping_sub(1);
             self.answered(alloc, line)?;
         }
         Ok(())
     }
 
-    /// Adds a line to a transcript, and behind a colon what is answered.
+    /// Adds a line to a transcript, and after a colon what is answered.
     fn put(&mut self, alloc: Global, text: &mut Vec<u8>, line: &str) -> Result<(), Refusal> {
         text.extend_from_slice(line.as_bytes())?;
         text.extend_from_slice(b": ")?;
@@ -205,7 +159,7 @@ impl Scene {
     }
 
     /// The transcript of the lines of a script, which stand each before a colon.
-    pub fn transcript(&mut self, alloc: Global, script: &str) -> Result<Vec<u8>, Refusal> {
+    fn transcript(&mut self, alloc: Global, script: &str) -> Result<Vec<u8>, Refusal> {
         let mut text = Vec::new(alloc);
         for line in script.lines() {
             if let Some((line, _)) = line.split_once(": ") {
@@ -238,7 +192,7 @@ impl Scene {
     pub fn replayed(&mut self, alloc: Global, recording: i64) -> Result<Vec<u8>, Refusal> {
         let replay = self.archive()?.desk().next_replay();
         let text = self.frames(alloc, recording);
-        self.run(alloc, format!(in alloc; "close {replay}")?.as_str(), 1)?;
+        self.run(alloc, format!(in alloc; "close {replay}")?.as_str())?;
         text
     }
 
@@ -271,22 +225,6 @@ pub fn catalogue_of(alloc: Global, disk: &mut MemoryDisk) -> Result<(u64, usize)
     Ok((log.epoch(), log.counted()))
 }
 
-/// Cuts a segment file of a recording and a base to so many bytes, changes its byte at an offset or removes it, and syncs it.
-fn damage(disk: &mut MemoryDisk, how: &str, words: &str) -> Result<(), Refusal> {
-    let mut words = words.split(' ');
-    let recording = number(words.next());
-    let base = number(words.next());
-    let at = u64::try_from(number(words.next())).unwrap_or(0);
-    let file = FileId::Segment { recording, base };
-    match how {
-        "cut" => disk.cut(file, at)?,
-        "turn" => disk.write_at(file, at, &[u8::try_from(number(words.next())).unwrap_or(0)])?,
-        "remove" => disk.remove(file)?,
-        _ => return Err(Refusal::BadLine),
-    }
-    Ok(disk.sync(file)?)
-}
-
 /// What a crash leaves of the archive of a disk, as text.
 fn text_left(alloc: Global, disk: &MemoryDisk, choice: u8) -> Result<Vec<u8>, Refusal> {
     let mut scene = Scene::new(alloc);
@@ -310,50 +248,4 @@ pub fn leaves(
         }
     }
     Ok(true)
-}
-
-/// A scene has to answer as a script says.
-pub fn answers(
-    rt: &impl Abort,
-    alloc: Global,
-    scene: &mut Scene,
-    script: &str,
-) -> Result<(), Fail> {
-    let text = scene.transcript(alloc, script)?;
-    assert!(rt;
-        text.as_slice() == script.as_bytes(),
-        "{:?}",
-        std::str::from_utf8(text.as_slice())
-    );
-    Ok(())
-}
-
-/// A scene has to answer as the parts of a script say.
-fn answers_all(
-    rt: &impl Abort,
-    alloc: Global,
-    scene: &mut Scene,
-    parts: &[&str],
-) -> Result<(), Fail> {
-    for part in parts {
-        answers(rt, alloc, scene, part)?;
-    }
-    Ok(())
-}
-
-/// The same of a new disk.
-pub fn plays(rt: &impl Abort, alloc: Global, parts: &[&str]) -> Result<(), Fail> {
-    let mut scene = Scene::new(alloc);
-    let played = answers_all(rt, alloc, &mut scene, parts);
-    drop(scene);
-    played
-}
-
-/// How many calls a new disk is asked for so many lines of a script behind its first one.
-pub fn calls_behind(alloc: Global, script: &str, most: usize) -> Result<u64, Refusal> {
-    let mut scene = Scene::new(alloc);
-    let ran = scene.run(alloc, script, most.wrapping_add(1));
-    let calls = scene.disk().calls();
-    drop(scene);
-    ran.and(Ok(calls))
 }

@@ -1,24 +1,144 @@
-//! Calls as lines, and their answers as the lines of docs/CONTROL.md.
+//! Calls of the archive that is open, as lines, and their answers as the lines of docs/CONTROL.md. README.md, "Calls".
 
+use crate::world::World;
 use archive_model::Reply;
 use control_core::Event;
-use control_lines::{Line, parse_line, print_refusal, print_reply};
-use disk_core::Disk;
-use engine_core::{Engine, OpenRefusal};
+use control_lines::{Line, parse_line, print_reply};
+use disk_core::MemoryDisk;
+use engine_core::Engine;
 use frame_core::{Block, Frame, FrameKind, Items, Refusal};
 use std::alloc::{AllocError, Global};
 
 /// Bytes of a term.
-pub const TERM: i64 = 65_536;
+const TERM: i64 = 65_536;
+
+/// Bytes from one frame of five bytes to the next.
+const APART: i64 = 64;
+
+/// What a line is answered: a question to the archive that is no call, several calls, or a call.
+pub(crate) fn reply(alloc: Global, world: &mut World, line: &str) -> Result<Vec<u8>, Refusal> {
+    let archive = world.archive()?;
+    let (word, rest) = line.split_once(' ').unwrap_or((line, ""));
+    match word {
+        "entries" => counted(alloc, archive.desk().counted()),
+        "broken" => counted(alloc, u64::from(archive.desk().is_broken())),
+        "do" => make_calls(alloc, archive, rest),
+        "writes" => write_frames(alloc, archive, rest, b"hello"),
+        "worlds" => write_frames(alloc, archive, rest, b"world"),
+        "count" => count_lines(alloc, archive, rest),
+        _ => call(alloc, archive, line),
+    }
+}
+
+/// A count as a line.
+fn counted(alloc: Global, count: u64) -> Result<Vec<u8>, Refusal> {
+    Ok(format!(in alloc; "{count}\n")?.into_bytes())
+}
+
+/// What the archive replies to an event.
+fn step(alloc: Global, archive: &mut Engine<MemoryDisk>, event: &Event) -> Result<Reply, Refusal> {
+    archive.step(alloc, event)
+}
+
+/// The same as lines.
+fn answer(
+    alloc: Global,
+    archive: &mut Engine<MemoryDisk>,
+    event: &Event,
+) -> Result<Vec<u8>, Refusal> {
+    match step(alloc, archive, event) {
+        Ok(reply) => print_reply(alloc, &reply),
+        Err(refusal) => Err(refusal),
+    }
+}
+
+/// What the call of a line is answered.
+fn call(alloc: Global, archive: &mut Engine<MemoryDisk>, line: &str) -> Result<Vec<u8>, Refusal> {
+    let event = event_of(alloc, line)?;
+    answer(alloc, archive, &event)
+}
+
+/// Makes calls, which are parted by `; `, and answers `done`, or the first refusal.
+fn make_calls(
+    alloc: Global,
+    archive: &mut Engine<MemoryDisk>,
+    lines: &str,
+) -> Result<Vec<u8>, Refusal> {
+    for line in lines.split("; ") {
+        call(alloc, archive, line)?;
+    }
+    Ok(Vec::from_slice(alloc, b"done\n")?)
+}
+
+/// A session writes frames with these bytes, each where the last one ended: its number, the first one's position and how many. Answers as
+/// the last write does; BadBlock if a write is answered another position than 64 bytes past its begin.
+fn write_frames(
+    alloc: Global,
+    archive: &mut Engine<MemoryDisk>,
+    rest: &str,
+    payload: &[u8],
+) -> Result<Vec<u8>, Refusal> {
+    let mut words = rest.split(' ');
+    let session = number(words.next());
+    let mut position = number(words.next());
+    for _ in 0..number(words.next()) {
+        let next = position.wrapping_add(APART);
+        if written(alloc, archive, session, position, payload)? != next {
+            return Err(Refusal::BadBlock);
+        }
+        position = next;
+    }
+    Ok(format!(in alloc; "written {position}\n")?.into_bytes())
+}
+
+/// Where a frame ends that a session writes at a position.
+fn written(
+    alloc: Global,
+    archive: &mut Engine<MemoryDisk>,
+    session: i64,
+    position: i64,
+    payload: &[u8],
+) -> Result<i64, Refusal> {
+    let event = write_at(alloc, session, position, payload)?;
+    match step(alloc, archive, &event) {
+        Ok(Reply::Written { position }) => Ok(position),
+        Ok(_) => Err(Refusal::BadBlock),
+        Err(refusal) => Err(refusal),
+    }
+}
+
+/// How many lines of a call's answer end in a text, for each of some texts: they are parted by commas, and the call follows them.
+fn count_lines(
+    alloc: Global,
+    archive: &mut Engine<MemoryDisk>,
+    rest: &str,
+) -> Result<Vec<u8>, Refusal> {
+    let (endings, line) = rest.split_once(' ').unwrap_or((rest, ""));
+    let answer = call(alloc, archive, line)?;
+    let mut counts = String::new(alloc);
+    for ending in endings.split(',') {
+        let lines = count(answer.as_slice(), ending.as_bytes());
+        writeln!(counts, "{lines} {ending}")?;
+    }
+    Ok(counts.into_bytes())
+}
+
+/// How many lines of a text end so.
+fn count(text: &[u8], end: &[u8]) -> usize {
+    text.split(|byte| *byte == b'\n')
+        .filter(|line| line.ends_with(end))
+        .count()
+}
 
 /// A number of a line, 0 where there is none.
-pub fn number(word: Option<&str>) -> i64 {
+fn number(word: Option<&str>) -> i64 {
     match word {
         Some(word) => word.parse::<i64>().unwrap_or(-2),
         None => 0,
     }
 }
 
+/// The number in 32 bits, 0 if it has more.
 fn lesser(number: i64) -> i32 {
     i32::try_from(number).unwrap_or(0)
 }
@@ -44,7 +164,7 @@ fn frame_at(alloc: Global, position: i64, payload: &[u8]) -> Result<Frame, Alloc
     })
 }
 
-/// A session writes the block of that frame.
+/// The event by which a session writes the block of that frame.
 fn write_at(alloc: Global, session: i64, position: i64, payload: &[u8]) -> Result<Event, Refusal> {
     let mut frames = Items::new(alloc);
     frames.push(frame_at(alloc, position, payload)?)?;
@@ -52,7 +172,7 @@ fn write_at(alloc: Global, session: i64, position: i64, payload: &[u8]) -> Resul
     Ok(Event::Write { session, block })
 }
 
-/// The sessions of a line are settled together.
+/// The event by which the sessions of a line are settled together.
 fn settle_all(alloc: Global, line: &str) -> Result<Event, Refusal> {
     let mut sessions = Items::new(alloc);
     for word in line.split(' ').skip(1) {
@@ -61,7 +181,7 @@ fn settle_all(alloc: Global, line: &str) -> Result<Event, Refusal> {
     Ok(Event::SettleAll { sessions })
 }
 
-/// The call of a line of docs/CONTROL.md, "Lines".
+/// The event of a line of docs/CONTROL.md, "Lines".
 fn read(alloc: Global, line: &str) -> Result<Event, Refusal> {
     match parse_line(alloc, line.as_bytes())? {
         Line::Event(event) => Ok(event),
@@ -82,10 +202,8 @@ fn read_short(alloc: Global, word: &str, of: &str, at: i64) -> Result<Event, Ref
     read(alloc, line.as_str())
 }
 
-/// The call of a line. `start` has the position alone, `start-from` too, whose source is `a:1`, and `start-of-two`, whose segments
-/// have two terms. `extend` has the recording and the position. A session writes `hello` (`write`), `world` or a pad to its term's
-/// end at a position; `settle-all` settles several. The others are those of docs/CONTROL.md, "Lines".
-pub fn event_in(alloc: Global, line: &str) -> Result<Event, Refusal> {
+/// The event of a line. README.md, "Calls", has the lines that are shorter than those of docs/CONTROL.md.
+fn event_of(alloc: Global, line: &str) -> Result<Event, Refusal> {
     let mut words = line.split(' ');
     let word = words.next().unwrap_or("");
     let of = words.next().unwrap_or("");
@@ -98,28 +216,4 @@ pub fn event_in(alloc: Global, line: &str) -> Result<Event, Refusal> {
         "start" | "start-of-two" | "start-from" | "extend" => read_short(alloc, word, of, at),
         _ => read(alloc, line),
     }
-}
-
-/// What an archive answers to a call.
-pub fn answer<D: Disk>(
-    alloc: Global,
-    engine: &mut Engine<D>,
-    event: &Event,
-) -> Result<Reply, Refusal> {
-    engine.step(alloc, event)
-}
-
-/// A reply as lines.
-pub fn told(alloc: Global, reply: &Reply) -> Result<Vec<u8>, Refusal> {
-    print_reply(alloc, reply)
-}
-
-/// A refusal as a line.
-pub fn refused(alloc: Global, refusal: &Refusal) -> Result<Vec<u8>, Refusal> {
-    Ok(Vec::from_slice(alloc, print_refusal(refusal).as_bytes())?)
-}
-
-/// A new archive on a disk, or why it was not made, and the disk.
-pub fn created<D: Disk>(alloc: Global, disk: D, limit: u32) -> Result<Engine<D>, OpenRefusal<D>> {
-    Engine::create(alloc, disk, limit)
 }
