@@ -1,8 +1,8 @@
 #!/usr/bin/env python3
 """Asks that a folder answers as memory does, and that each command of the program ends as docs/CONTROL.md says.
 
-The worked scripts are read from tests_tool. Those over an empty disk are run over memory and over a folder, and
-both have to give the test's text, byte for byte; those over another disk are run over a folder that was made to be like it.
+The worked scripts are read from the cases of tests_scripts. One over an empty disk is run over memory and over a folder, and
+both have to give the case's text, byte for byte. A case with more steps is played over a folder, whose files are changed as it says.
 Then each command is run on archives that are whole, damaged, absent or in use: its status, what it prints, and the line of
 its refusal on standard error (what stands there beside that line is tried by standard_error.py). Then what docs/STORAGE.md tells an operator: retention to its end, and what `verify` and `frames` don't see.
 
@@ -15,19 +15,15 @@ import shutil
 import subprocess
 import sys
 import tempfile
-from collections.abc import Callable, Iterator
+from collections.abc import Iterator
 from contextlib import contextmanager
 from pathlib import Path
 
 from lib.tool import ROOT, Session, Stream, bank, program, room, settle_entry
 
 CRATES = ROOT / "crates"
-TEXT = r'"((?:[^"\\]|\\.|\\\n)*)"'
-HEAD = r"fn (\w+)\(rt: HostRuntime\)[^{]*\{\s*"
-TEXTS = rf"{TEXT},\s*{TEXT},?\s*\)"
-OVER_EMPTY = re.compile(rf"{HEAD}check\(\s*rt\.alloc\(\),\s*{TEXTS}")
-OVER_OTHER = re.compile(rf"{HEAD}check_on\(\s*rt\.alloc\(\),\s*(\S.*),\s*{TEXTS}")
-VECTOR = re.compile(r'\(\s*"([A-Z]\w+)",\s*"([0-9a-f]+)",?\s*\)')
+CASES = CRATES / "tests_scripts/data"
+WORD = re.compile(r"\{(\w+)\}")
 FEWEST_SCRIPTS = 25
 
 STREAM = Stream(term_length=65_536, segment_length=131_072)
@@ -105,67 +101,97 @@ def damage(folder: Path) -> None:
     overwrite(folder / "0-0.rec", 0, b"\x00")
 
 
-# Scripts, as the tests have them
+# Scripts, as the cases have them: crates/case_files/README.md, "The format"
+
+Step = tuple[str, str]
+# Words of steps that can be played over a folder.
+PLAYED = frozenset("run run-text make put cut remove clear bytes list-archive compact-archive".split())
+# The refusal of an opening, in a case whose folder has none that opens.
+UNOPENED = {"an_archive_that_is_refused": NOT_CATALOGUE}
 
 
-def text_of(literal: str, vectors: dict[str, str]) -> str:
-    """The lines of a text of the tests, in which lines stand apart by `; ` and vectors by their names."""
-    lines = re.sub(r"\\\n\s*", "", literal).split("; ")
-    return "".join(" ".join(vectors.get(word, word) for word in line.split(" ")) + "\n" for line in lines)
+def steps_of(lines: list[str]) -> list[Step]:
+    """The steps of a case's lines: each line that is asked, and its answer."""
+    steps: list[Step] = []
+    for line in lines:
+        if line.startswith("=>"):
+            steps[-1] = steps[-1][0], steps[-1][1] + line[2:].removeprefix(" ") + "\n"
+        else:
+            asked, arrow, answer = line.partition(" => ")
+            steps.append((asked, answer + "\n" if arrow else ""))
+    return steps
 
 
-def make_recorded(trial: Trial, folder: Path) -> None:
-    trial.ended("run", folder, given=RECORDED)
+def cases_of(text: str) -> Iterator[tuple[str, list[Step]]]:
+    """The cases of a file that have no rows: each one's name and its steps."""
+    paragraphs = [[it for it in part.splitlines() if not it.startswith("#")] for part in text.split("\n\n")]
+    words = dict(line.split(" ", 1) for head, *lines in filter(None, paragraphs) if head == "let" for line in lines)
+    texts = {head.removeprefix("text "): lines for head, *lines in filter(None, paragraphs) if head.startswith("text ")}
+    for head, *lines in filter(None, paragraphs):
+        if head.startswith("case ") and not any(it.startswith("each ") for it in lines):
+            whole = [it for line in lines for it in (texts[line[1:]] if line.startswith("@") else [line]) if not it.startswith("- ")]
+            yield head.removeprefix("case "), steps_of([WORD.sub(lambda it: words.get(it[1], it[0]), line) for line in whole])
 
 
-def make_damaged(trial: Trial, folder: Path) -> None:
-    make_recorded(trial, folder)
-    damage(folder)
+def script_of(word: str, rest: str) -> str:
+    """The script of a step."""
+    return rest.replace("\\n", "\n") if word == "run-text" else rest.replace("; ", "\n") + "\n"
 
 
-def make_short_history(trial: Trial, folder: Path) -> None:
-    trial.ended("create", folder, "--history", "3")
+def file_of(folder: Path, name: str) -> Path:
+    """The file of a step: a bank, or a segment file by its recording and base."""
+    return folder / (f"catalogue-{name[-1]}.bank" if name.startswith("bank-") else f"{name}.rec")
 
 
-def make_without_spare(trial: Trial, folder: Path) -> None:
-    make_recorded(trial, folder)
-    (folder / "catalogue-b.bank").unlink()
+def change(folder: Path, word: str, rest: str) -> str:
+    """Changes a file as a step says."""
+    name, *words = rest.split(" ")
+    path = file_of(folder, name)
+    if word == "put":
+        path.touch()
+        overwrite(path, int(words[0]), bytes.fromhex(words[1]))
+    elif word == "cut":
+        os.truncate(path, int(words[0]))
+    else:
+        path.unlink()
+    return "done\n"
 
 
-def make_no_catalogue(trial: Trial, folder: Path) -> None:
-    (folder / "catalogue-a.bank").write_bytes(bytes(32))
-
-
-MADE: dict[str, Callable[[Trial, Path], None]] = {
-    "recorded(rt.alloc(), MemoryDisk::new(rt.alloc()))?": make_recorded,
-    "damaged(recorded(rt.alloc(), MemoryDisk::new(rt.alloc()))?, 0)?": make_damaged,
-    "with_short_history(rt.alloc())?": make_short_history,
-    "without_catalogue(rt.alloc())?": make_no_catalogue,
-    "without_spare(rt.alloc())?": make_without_spare,
-}
-# The refusal of an opening, where a folder is so.
-UNOPENED = {make_no_catalogue: NOT_CATALOGUE}
+def play(trial: Trial, name: str, folder: Path, step: Step) -> None:
+    """Plays a step over a folder."""
+    line, right = step
+    word, _, rest = line.partition(" ")
+    if word.startswith("run"):
+        told = trial.ended("run", folder, given=script_of(word, rest))
+        trial.expect(f"{name}, over a folder", told, (0, right, UNOPENED.get(name, "")))
+    elif word == "make":
+        trial.expect(f"{name}: {line}", trial.ended("create", folder, "--history", rest), (0, "created\n", ""))
+    elif word.endswith("-archive"):
+        trial.expect(f"{name}: {line}", trial.ended(word.removesuffix("-archive"), folder), (0, right, ""))
+    elif word == "bytes":
+        trial.expect(f"{name}: {line}", file_of(folder, rest).read_bytes().hex() + "\n", right)
+    elif word == "clear":
+        for path in folder.iterdir():
+            path.unlink()
+    else:
+        trial.expect(f"{name}: {line}", change(folder, word, rest), right)
 
 
 def try_scripts(trial: Trial) -> None:
-    """Each script of the tests, over memory and a folder, or over a folder that is like its disk."""
-    source = "".join((CRATES / "tests_tool/src" / name).read_text() for name in ("scenarios.rt", "disks.rt", "compactions.rt"))
-    vectors = dict(VECTOR.findall(source))
-    empty = [(name, text_of(lines, vectors), text_of(told, vectors)) for name, lines, told in OVER_EMPTY.findall(source)]
-    empty.append(("stdin", (CRATES / "archive_tool/stdin").read_text(), (CRATES / "archive_tool/stdout").read_text()))
-    empty += [("no line", "", ""), ("a last line without its end", "list 0 0", "end 0\n"), ("quit", "quit\nlist 0 0\n", "bye\n")]
-    for name, lines, told in empty:
-        trial.expect(f"{name}, over memory", trial.ended("run", given=lines), (0, told, ""))
+    """Each script of the cases, over memory and a folder, or over a folder that is changed as its case says."""
+    files = [(CASES / f"tool_{name}.cases").read_text() for name in ("scenarios", "disks", "compactions", "versions")]
+    found = [(name, steps) for text in files for name, steps in cases_of(text)]
+    found.append(("stdin", [("run-text " + (CRATES / "archive_tool/stdin").read_text(), (CRATES / "archive_tool/stdout").read_text())]))
+    played = [(name, steps) for name, steps in found if PLAYED.issuperset(line.split(" ")[0] for line, _ in steps)]
+    for name, steps in played:
+        if len(steps) == 1 or name == "lines_at_the_edges_of_a_script":
+            for line, right in (it for it in steps if it[0].startswith("run")):
+                word, _, rest = line.partition(" ")
+                trial.expect(f"{name}, over memory", trial.ended("run", given=script_of(word, rest)), (0, right, ""))
         with trial.folder() as folder:
-            trial.expect(f"{name}, over a folder", trial.ended("run", folder, given=lines), (0, told, ""))
-    other = OVER_OTHER.findall(source)
-    for name, disk, lines, told in other:
-        with trial.folder() as folder:
-            MADE[disk](trial, folder)
-            answer = trial.ended("run", folder, given=text_of(lines, vectors))
-            right = 0, text_of(told, vectors), UNOPENED.get(MADE[disk], "")
-            trial.expect(f"{name}, over a folder", answer, right)
-    trial.expect("scripts found in the tests", len(empty) + len(other) >= FEWEST_SCRIPTS, True)
+            for step in steps:
+                play(trial, name, folder, step)
+    trial.expect("scripts found in the cases", len(played) >= FEWEST_SCRIPTS, True)
 
 
 # Commands

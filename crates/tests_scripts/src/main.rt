@@ -2,9 +2,15 @@
 //! and what each is answered. README.md, "The lines".
 #![tactic(auto)]
 
+mod archives;
 mod calls;
+mod captures;
 mod commands;
+mod fakes;
 mod files;
+mod frames;
+mod looks;
+mod scripts;
 mod world;
 
 use case_files::play_files;

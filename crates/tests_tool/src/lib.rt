@@ -1,18 +1,12 @@
-//! Tests of what the program's commands do, without its command line: the worked scenarios, listings of files, and what
-//! failing readers, writers and disks lead to; and of archives that are only looked at. They stand apart from the crates that
-//! they test, so that these are not proved a second time for their tests.
+//! Tests of what the program's commands do, without its command line, that are no cases of tests_scripts: what observers get, memory
+//! that is refused, inputs that fail, and what is shown of long readings. They stand apart from the crates that they test, so that these
+//! are not proved a second time for their tests.
 #![tactic(auto)]
 
-#[cfg(test)]
-mod captures;
 #[cfg(test)]
 mod checkpoints;
 #[cfg(test)]
 mod compactions;
-#[cfg(test)]
-mod damage;
-#[cfg(test)]
-mod disks;
 #[cfg(test)]
 mod faults;
 #[cfg(test)]
@@ -20,16 +14,10 @@ mod frames;
 #[cfg(test)]
 mod lines;
 #[cfg(test)]
-mod pages;
-#[cfg(test)]
 mod progress;
 #[cfg(test)]
 mod refused;
 #[cfg(test)]
-mod reports;
-#[cfg(test)]
-mod scenarios;
-#[cfg(test)]
-mod versions;
+mod scripts;
 #[cfg(test)]
 mod views;

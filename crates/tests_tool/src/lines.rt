@@ -1,6 +1,6 @@
 //! What no clause says: that lines are read while there is memory, and what a failing input leads to.
 
-use super::scenarios::{answers, expect};
+use super::scripts::{answers, expect};
 use std::alloc::Global;
 use std::io::{BufRead, BufReader, Error, ErrorKind, Read};
 use std::test::*;

@@ -1,7 +1,10 @@
 //! What is shown of a long verification, by a clock of the tests.
 
-use super::reports::{check_archive, opened, two_recordings};
-use archive_commands::{ListedFiles, OpeningProgress, Progress, Screen, Verdict, Viewer, Watched};
+use super::scripts::{after, expect};
+use archive_commands::{
+    ListedFiles, OpeningProgress, Progress, Screen, Verdict, Verifiable, Viewer, Watched,
+    verify_recordings,
+};
 use disk_core::{Disk, FileId, MemoryDisk};
 use engine_core::Engine;
 use std::alloc::Global;
@@ -10,6 +13,7 @@ use std::fmt::Display;
 use std::io::Eprint;
 use std::test::*;
 use std::time::{Clock, Duration};
+use tool_core::Unobserved;
 
 /// A clock that goes on by 150 milliseconds at each read, and a terminal that counts what is printed, and whether the text that
 /// is awaited was among it.
@@ -83,6 +87,15 @@ fn listed(alloc: Global, disk: MemoryDisk) -> Result<ListedFiles, Fail> {
         Some(files) => Ok(files),
         None => Err(Fail::new("the files were not listed")),
     }
+}
+
+/// The disk of an archive with two recordings: one of two frames, which was stopped, and one of a frame, which was not.
+fn two_recordings(alloc: Global) -> Result<MemoryDisk, Fail> {
+    after(
+        alloc,
+        "start 1001 7 42 65536 1408 131072 0 1000 c; start 1001 7 42 65536 1408 131072 0 1000 d; block 0 HELLO_AT_0; \
+        block 0 HELLO_AT_64; block 1 HELLO_AT_0; stop 0 2000",
+    )
 }
 
 /// The files of an archive with two recordings.
@@ -178,6 +191,39 @@ impl Viewer<MemoryDisk> for Counter {
 fn bytes_told(engine: Engine<Watched<MemoryDisk, Option<Counter>>>) -> Option<u64> {
     let (_, viewer) = engine.into_disk().into_parts();
     viewer.map(|counter| counter.bytes)
+}
+
+/// The archive of a disk.
+fn opened<D: Disk + Drop>(alloc: Global, disk: D) -> Result<Engine<D>, Fail> {
+    match Engine::open(alloc, disk) {
+        Ok((engine, _)) => Ok(engine),
+        Err(_) => Err(Fail::new("the archive was not opened")),
+    }
+}
+
+/// What `verify` tells of an archive, and its verdict.
+fn verified<A: Verifiable>(alloc: Global, archive: &mut A) -> Result<(Vec<u8>, Verdict), Fail> {
+    let mut out = Vec::new(alloc);
+    match verify_recordings(alloc, archive, None, &mut out, &mut Unobserved) {
+        Ok(verdict) => Ok((out, verdict)),
+        Err(_) => Err(Fail::new("the verification ended early")),
+    }
+}
+
+/// Fails with what `verify` tells of an archive, where it is another text or verdict.
+fn check_archive<A: Verifiable>(
+    alloc: Global,
+    archive: &mut A,
+    told: &str,
+    verdict: Verdict,
+) -> Result<(), Fail> {
+    let (out, judged) = verified(alloc, archive)?;
+    expect(out.as_slice(), told)?;
+    if judged == verdict {
+        Ok(())
+    } else {
+        Err(Fail::new("another verdict"))
+    }
 }
 
 /// Of how many bytes a viewer is told while two recordings are verified.

@@ -1,8 +1,7 @@
 //! Requests for memory that are refused in a script: `trials/refused_memory.py tests` runs the test once for each of its requests,
 //! which it refuses. docs/CONTROL.md, "Refusals".
 
-use super::disks::created;
-use super::scenarios::behind;
+use super::scripts::{behind, created};
 use disk_core::MemoryDisk;
 use std::alloc::{AllocError, Global};
 use tool_core::Unobserved;
