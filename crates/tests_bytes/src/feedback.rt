@@ -126,11 +126,7 @@ impl Receiver {
 }
 
 /// Adds how many publications are asked for a setup frame, and how many wait.
-fn put_asked_of(
-    out: &mut String,
-    requests: &mut SetupRequests,
-    rest: &str,
-) -> Result<(), Refusal> {
+fn put_asked_of(out: &mut String, requests: &mut SetupRequests, rest: &str) -> Result<(), Refusal> {
     let (first, last, now, _) = numbers(rest)?;
     let now = natural(now)?;
     let (mut asked, mut waiting) = (0u64, 0u64);

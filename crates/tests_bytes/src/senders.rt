@@ -117,7 +117,10 @@ fn happens(
         "wait" => {}
         "end" => sender.end(),
         "hear" => sender.hear(now, &status_of(rest)?),
-        "status" => sender.hear(now, &StatusMessage::decode(bytes_of(alloc, rest)?.as_slice())?),
+        "status" => sender.hear(
+            now,
+            &StatusMessage::decode(bytes_of(alloc, rest)?.as_slice())?,
+        ),
         "ask" => sender.ask(now, &nak_of(rest)?),
         "nak" => sender.ask(now, &Nak::decode(bytes_of(alloc, rest)?.as_slice())?),
         "lay" => lay_bytes(alloc, sender, rest)?,
@@ -186,12 +189,7 @@ fn lay_pad(sender: &mut Sender, term_length: u64, rest: &str) -> Result<(), Refu
 }
 
 /// Sends what is due, and adds its word and its bytes.
-fn put_due(
-    alloc: Global,
-    out: &mut String,
-    sender: &mut Sender,
-    now: u64,
-) -> Result<(), Refusal> {
+fn put_due(alloc: Global, out: &mut String, sender: &mut Sender, now: u64) -> Result<(), Refusal> {
     match sender.due(now) {
         Due::Setup => put_setup(alloc, out, sender, now),
         Due::Heartbeat => put_heartbeat(alloc, out, sender, now),

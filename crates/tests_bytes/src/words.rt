@@ -135,7 +135,10 @@ pub(crate) fn put_frame(
     let kind = word_of(kind);
     write!(out, "{kind} length {length} flags {flags:02x} ")?;
     write!(out, "offset {term_offset} session {session_id} ")?;
-    write!(out, "stream {stream_id} term {term_id} reserved {reserved} ")?;
+    write!(
+        out,
+        "stream {stream_id} term {term_id} reserved {reserved} "
+    )?;
     put_bytes(alloc, out, "payload", payload)
 }
 

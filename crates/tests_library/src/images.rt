@@ -8,12 +8,7 @@ use std::process::Abort;
 use std::test::Fail;
 
 /// A message of the vectors' session and stream.
-fn message(
-    alloc: Global,
-    term_id: i32,
-    offset: i32,
-    body: &[u8],
-) -> Result<Frame, AllocError> {
+fn message(alloc: Global, term_id: i32, offset: i32, body: &[u8]) -> Result<Frame, AllocError> {
     Ok(Frame {
         kind: FrameKind::Message,
         flags: 0xC0,
