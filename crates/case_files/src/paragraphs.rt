@@ -70,7 +70,9 @@ pub(crate) fn paragraphs_of<'a>(
     for text in text.split("\n\n") {
         found.push(Paragraph { number, text })?;
         // A paragraph of n line feeds has n + 1 lines, and a blank one comes after it.
-        number = number.wrapping_add(text.split('\n').count()).wrapping_add(1);
+        number = number
+            .wrapping_add(text.split('\n').count())
+            .wrapping_add(1);
     }
     Ok(found)
 }

@@ -2,10 +2,9 @@
 
 use crate::playing::{Player, play_text};
 use std::alloc::Global;
-use std::env;
-use std::fs;
 use std::io::{self, BufWriter, Write};
 use std::process::ExitCode;
+use std::{env, fs};
 
 /// Plays the files of cases that the program's words name, and returns its exit status: 0 if there is a file, and every case is answered
 /// as it says; else 1. Standard output has a line for each case, standard error each answer that is another one, and what fails.
@@ -17,7 +16,10 @@ pub fn play_files<P: Player>(rt: HostRuntime, player: &mut P) -> ExitCode {
             ExitCode::FAILURE
         }
         Err(error) => {
-            let _ = writeln!(&mut rt.stderr(), "the cases were not played to their end: {error}");
+            let _ = writeln!(
+                &mut rt.stderr(),
+                "the cases were not played to their end: {error}"
+            );
             ExitCode::FAILURE
         }
     }

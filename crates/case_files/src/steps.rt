@@ -20,7 +20,12 @@ pub(crate) struct Step {
 
 impl Step {
     /// The step of a line, which may have an answer of one line.
-    fn new(alloc: Global, number: usize, line: &str, words: &[Word<'_>]) -> Result<Step, AllocError> {
+    fn new(
+        alloc: Global,
+        number: usize,
+        line: &str,
+        words: &[Word<'_>],
+    ) -> Result<Step, AllocError> {
         let mut step = Step {
             number,
             line: String::new(alloc),
@@ -79,7 +84,13 @@ fn add_lines(
 ) -> Result<(), AllocError> {
     for (index, line) in paragraph.text.lines().enumerate() {
         if is_step(line) {
-            add_line(alloc, steps, paragraph.number.wrapping_add(index), line, words)?;
+            add_line(
+                alloc,
+                steps,
+                paragraph.number.wrapping_add(index),
+                line,
+                words,
+            )?;
         }
     }
     Ok(())
@@ -96,7 +107,13 @@ fn add_text(
 ) -> Result<(), AllocError> {
     match text_of(paragraphs, name) {
         Some(text) => add_lines(alloc, steps, &text, words),
-        None => add_line(alloc, steps, number, "text => there is no text of this name", words),
+        None => add_line(
+            alloc,
+            steps,
+            number,
+            "text => there is no text of this name",
+            words,
+        ),
     }
 }
 
@@ -114,7 +131,14 @@ pub(crate) fn steps_of(
             Some(name) => {
                 let mut filled = String::new(alloc);
                 fill(&mut filled, name, words)?;
-                add_text(alloc, &mut steps, paragraphs, number, filled.as_str(), words)?;
+                add_text(
+                    alloc,
+                    &mut steps,
+                    paragraphs,
+                    number,
+                    filled.as_str(),
+                    words,
+                )?;
             }
             None if is_step(line) => add_line(alloc, &mut steps, number, line, words)?,
             None => {}
