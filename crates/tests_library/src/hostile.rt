@@ -1,13 +1,11 @@
-//! Hostile bytes: the worked bank, a frame's encoding and a segment file, changed and cut at each length. docs/STORAGE.md
-//! and docs/PROTOCOL.md say what each is answered. A refused opening leaves all files as they are, but for two syncs.
+//! Hostile bytes: the worked bank and a segment file, changed and cut at each length. docs/STORAGE.md says what each is answered. A
+//! refused opening leaves all files as they are, but for two syncs.
 
 use crate::catalogues::{BANK, answer, register_in};
-use crate::images::image;
 use crate::segments::{FIRST, is_hello_read};
 use crate::vectors::HELLO_AT_0;
 use disk_core::{Disk, Fault, FileId, MemoryDisk};
-use frame_core::{Geometry, Refusal, block_of, decode_front, frames_of_datagram};
-use image_core::Image;
+use frame_core::Refusal;
 use std::alloc::Global;
 use std::test::Fail;
 
@@ -120,56 +118,6 @@ fn an_opening_of_a_cut_bank_syncs_alone(rt: HostRuntime) -> Result<(), Fail> {
             "{length}"
         );
     }
-    Ok(())
-}
-
-const GEOMETRY: Geometry = Geometry {
-    initial_term_id: 42,
-    term_length: 65_536,
-    mtu: 1_408,
-};
-
-const BAD: Refusal = Refusal::BadFrame { offset: 0 };
-
-/// Whether bytes are no frame: in front, as a datagram, as a block and to an image.
-fn are_refused(alloc: Global, image: &mut Image, bytes: &[u8]) -> bool {
-    decode_front(bytes).err() == Some(BAD)
-        && frames_of_datagram(alloc, bytes).err() == Some(BAD)
-        && block_of(alloc, &GEOMETRY, bytes).err() == Some(BAD)
-        && image.insert(bytes).err() == Some(BAD)
-}
-
-/// How many bytes a frame in front takes, of how many frames a datagram and a block are, and how many an image takes in.
-fn read(alloc: Global, image: &mut Image, bytes: &[u8]) -> Result<[usize; 4], Refusal> {
-    let (_, used) = decode_front(bytes)?;
-    let sent = frames_of_datagram(alloc, bytes)?.len();
-    let frames = block_of(alloc, &GEOMETRY, bytes)?.frames.len();
-    Ok([used, sent, frames, image.insert(bytes)?.held])
-}
-
-/// A frame of 37 bytes is refused while a byte is missing.
-#[test]
-fn a_frame_is_cut_at_each_length(rt: HostRuntime) -> Result<(), Fail> {
-    let mut image = image(rt.alloc())?;
-    for length in 0..37usize {
-        let bytes = HELLO_AT_0.get(..length).unwrap_or(HELLO_AT_0);
-        assert!(rt; are_refused(rt.alloc(), &mut image, bytes), "{length}");
-    }
-    assert!(rt; image.rebuilt() == 0 && image.high() == 0);
-    assert!(rt; read(rt.alloc(), &mut image, HELLO_AT_0) == Ok([37, 1, 1, 1]));
-    Ok(())
-}
-
-/// Whether a datagram without a type is refused, and one of a status message is foreign.
-fn short_ones(image: &mut Image) -> Result<bool, Refusal> {
-    let is_refused = image.insert(&[0; 7]).err() == Some(BAD);
-    Ok(is_refused && image.insert(&[0, 0, 0, 0, 0, 0, 3, 0])?.foreign)
-}
-
-/// A datagram of 7 bytes has no type, and one of 8 with the type of a status message is foreign.
-#[test]
-fn short_datagrams(rt: HostRuntime) -> Result<(), Fail> {
-    assert!(rt; short_ones(&mut image(rt.alloc())?)?);
     Ok(())
 }
 

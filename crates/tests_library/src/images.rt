@@ -1,9 +1,6 @@
-//! Images and repair: docs/PROTOCOL.md, "Images" and "Repair", by example; each request for memory refused, and a
-//! stream over a bad line.
+//! Images and repair: each request for memory refused, and a stream over a bad line. docs/PROTOCOL.md, "Images" and "Repair".
 
-use crate::vectors::{
-    HEARTBEAT_AT_256, HELLO_AT_0, HELLO_AT_64, HELLO_AT_128, NAK_AT_64, NAK_AT_192, SETUP,
-};
+use crate::vectors::SETUP;
 use frame_core::{Block, Frame, FrameKind, Items, Nak, Refusal, Setup, are_encodable};
 use image_core::{Image, repair};
 use std::alloc::{AllocError, Global};
@@ -11,12 +8,7 @@ use std::process::Abort;
 use std::test::Fail;
 
 /// A message of the vectors' session and stream.
-pub(crate) fn message(
-    alloc: Global,
-    term_id: i32,
-    offset: i32,
-    body: &[u8],
-) -> Result<Frame, AllocError> {
+fn message(alloc: Global, term_id: i32, offset: i32, body: &[u8]) -> Result<Frame, AllocError> {
     Ok(Frame {
         kind: FrameKind::Message,
         flags: 0xC0,
@@ -31,7 +23,7 @@ pub(crate) fn message(
 }
 
 /// A datagram of one frame.
-pub(crate) fn datagram(alloc: Global, frame: &Frame) -> Result<Vec<u8>, AllocError> {
+fn datagram(alloc: Global, frame: &Frame) -> Result<Vec<u8>, AllocError> {
     let mut bytes = frame.header().to_vec(alloc)?;
     bytes.extend_from_slice(frame.payload.as_slice())?;
     Ok(bytes)
@@ -45,64 +37,19 @@ fn repaired(alloc: Global, frames: &[Frame], nak: &Nak) -> Result<Items<Items<u8
     Ok(repair(alloc, frames, nak)?)
 }
 
-/// What a receiver sees of an image: the rebuild position, the high-water mark and the request for the gap, which has no
-/// byte if there is none.
-fn stands(image: &Image, rebuilt: i64, high: i64, gap: &[u8]) -> bool {
-    let is_asked = match image.gap() {
-        Some(nak) => nak.encode().as_slice() == gap,
-        None => gap.is_empty(),
-    };
-    is_asked && image.rebuilt() == rebuilt && image.high() == high
+/// Whether nothing is missing up to a position, which is the rebuild position and the high-water mark of an image.
+fn stands(image: &Image, position: i64) -> bool {
+    image.gap().is_none() && image.rebuilt() == position && image.high() == position
 }
 
 /// An image of the vectors' stream.
-pub(crate) fn image(alloc: Global) -> Result<Image, Refusal> {
+fn image(alloc: Global) -> Result<Image, Refusal> {
     Image::from_setup(alloc, &Setup::decode(&SETUP)?)
 }
 
 /// Inserts a datagram, and counts the frames of it that joined.
 fn insert(image: &mut Image, bytes: &[u8]) -> Result<usize, Refusal> {
     Ok(image.insert(bytes)?.held)
-}
-
-/// What a receiver sees behind each of four datagrams.
-fn check_gaps(rt: &impl Abort, image: &mut Image) -> Result<(), Refusal> {
-    for (bytes, rebuilt, high, gap) in [
-        (HELLO_AT_0, 64, 64, b"".as_slice()),
-        (HELLO_AT_128, 64, 192, NAK_AT_64.as_slice()),
-        (HELLO_AT_64, 192, 192, b"".as_slice()),
-        (HEARTBEAT_AT_256, 192, 256, NAK_AT_192.as_slice()),
-    ] {
-        insert(image, bytes)?;
-        assert!(rt; stands(image, rebuilt, high, gap), "at {high}");
-    }
-    Ok(())
-}
-
-/// Frames and heartbeats move the rebuild position and the high-water mark, and the NAK asks for the gap between them.
-#[test]
-fn frames_and_heartbeats_move_the_gap(rt: HostRuntime) -> Result<(), Fail> {
-    Ok(check_gaps(&rt, &mut image(rt.alloc())?)?)
-}
-
-/// The header of a frame of 64 bytes of term 42.
-const HEADER_OF_64: &[u8] =
-    b"\x40\0\0\0\0\xc0\x01\0\0\0\0\0\x07\0\0\0\xe9\x03\0\0\x2a\0\0\0\0\0\0\0\0\0\0\0";
-
-/// How many frames join, of a datagram of a frame of 64 bytes at an offset.
-fn held_at(image: &mut Image, offset: i32) -> Result<usize, Refusal> {
-    let mut bytes = [0; 64];
-    bytes[..32].copy_from_slice(HEADER_OF_64);
-    bytes[8..12].copy_from_slice(&offset.to_le_bytes());
-    insert(image, &bytes)
-}
-
-/// A frame that ends past the window of half a term is dropped.
-#[test]
-fn frames_past_the_window_are_dropped(rt: HostRuntime) -> Result<(), Fail> {
-    let mut image = image(rt.alloc())?;
-    assert!(rt; held_at(&mut image, 32_736) == Ok(0) && held_at(&mut image, 32_704) == Ok(1));
-    Ok(())
 }
 
 /// Adds a message of a term at an offset.
@@ -114,29 +61,6 @@ fn add(
     body: &[u8],
 ) -> Result<(), AllocError> {
     Ok(frames.push(message(alloc, term_id, offset, body)?)?)
-}
-
-/// `hello` at 0, 64 and 128.
-fn hellos(alloc: Global) -> Result<Vec<Frame>, AllocError> {
-    let mut frames = Vec::new(alloc);
-    for offset in [0, 64, 128] {
-        add(alloc, &mut frames, 42, offset, b"hello")?;
-    }
-    Ok(frames)
-}
-
-/// Whether the one datagram that is sent of frames for a request has these bytes.
-fn is_answer(alloc: Global, frames: &[Frame], nak: &Nak, bytes: &[u8]) -> Result<bool, Fail> {
-    let sent = repaired(alloc, frames, nak)?;
-    Ok(matches!(sent.as_slice(), [datagram] if datagram.as_slice() == bytes))
-}
-
-/// A NAK is answered by the datagrams of the frames that it asks for.
-#[test]
-fn a_request_is_answered_by_its_frames(rt: HostRuntime) -> Result<(), Fail> {
-    let nak = Nak::decode(&NAK_AT_64)?;
-    assert!(rt; is_answer(rt.alloc(), &hellos(rt.alloc())?, &nak, HELLO_AT_64)?);
-    Ok(())
 }
 
 /// How many frames the next block has, if there is one.
@@ -152,7 +76,7 @@ fn taken_again(rt: &impl Abort, image: &mut Image) -> Result<Option<usize>, Refu
     match frames_taken(image) {
         Ok(count) => Ok(count),
         Err(_) => {
-            assert!(rt; stands(image, 192, 192, b""));
+            assert!(rt; stands(image, 192));
             frames_taken(image)
         }
     }
@@ -161,7 +85,7 @@ fn taken_again(rt: &impl Abort, image: &mut Image) -> Result<Option<usize>, Refu
 /// Inserts a datagram, again where memory is refused, which has changed nothing.
 fn insert_again(rt: &impl Abort, image: &mut Image, bytes: &[u8]) -> Result<(), Refusal> {
     if insert(image, bytes).is_err() {
-        assert!(rt; stands(image, 0, 0, b""));
+        assert!(rt; stands(image, 0));
         insert(image, bytes)?;
     }
     Ok(())
@@ -182,7 +106,7 @@ const THREE_HELLOS: &[u8] =
 fn refused_memory_changes_nothing(rt: HostRuntime) -> Result<(), Fail> {
     let mut image = image(rt.alloc())?;
     insert_again(&rt, &mut image, THREE_HELLOS)?;
-    assert!(rt; stands(&image, 192, 192, b""));
+    assert!(rt; stands(&image, 192));
     assert!(rt; taken_again(&rt, &mut image) == Ok(Some(3)));
     assert!(rt; frames_taken(&mut image) == Ok(None));
     Ok(())
