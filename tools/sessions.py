@@ -58,18 +58,22 @@ def differences(page: Path, program: Path, room: str) -> Iterator[str]:
     """The commands of a page that print something else than stands there."""
     for session in sessions(page.read_text()):
         folder = str(ROOT)
-        for command, told in session:
+        for shown, told in session:
+            command = shown
             if PROVES.search(command):
                 continue
+            if folder.endswith("/first_look") or "crates/first_look && " in command:
+                # The small program answers the lines as `archive_tool run` does.
+                command = command.replace("rt try -- ", "archive_tool run ")
             given = PROGRAM.sub(f"{shlex.quote(str(program))} ", command.replace("python3 tools/libraries.py && ", ""))
             words = ["bash", "-c", given.replace("/var/tmp", room) + f"\npwd > {room}/.folder"]
             # `rt try` prints standard error after standard output.
-            errors = subprocess.PIPE if "rt try" in command else subprocess.STDOUT
+            errors = subprocess.PIPE if "rt try" in shown else subprocess.STDOUT
             ran = subprocess.run(words, cwd=folder, stdout=subprocess.PIPE, stderr=errors, text=True)
             folder = Path(room, ".folder").read_text().strip()
             printed = ran.stdout + (ran.stderr or "")
             if not agrees(steady(printed.replace(room, "/var/tmp")), steady(TRIED.sub("", told))):
-                yield f"{page.relative_to(ROOT)}: $ {command}\n  printed: {printed!r}\n  shown:   {told!r}"
+                yield f"{page.relative_to(ROOT)}: $ {shown}\n  printed: {printed!r}\n  shown:   {told!r}"
 
 
 def agrees(printed: str, shown: str) -> bool:
