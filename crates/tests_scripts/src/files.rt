@@ -9,7 +9,20 @@ use std::alloc::Global;
 
 /// The words of these lines.
 const WORDS: [&str; 15] = [
-    "make", "open", "begin", "crash", "compacts", "stop-after", "fail-at", "cut", "put", "remove", "bytes", "calls", "changes", "catalogue",
+    "make",
+    "open",
+    "begin",
+    "crash",
+    "compacts",
+    "stop-after",
+    "fail-at",
+    "cut",
+    "put",
+    "remove",
+    "bytes",
+    "calls",
+    "changes",
+    "catalogue",
     "clear",
 ];
 

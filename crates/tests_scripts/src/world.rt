@@ -1,8 +1,6 @@
 //! A disk in memory, and the archive that is open on it.
 
-use crate::calls;
-use crate::commands;
-use crate::files;
+use crate::{calls, commands, files};
 use case_files::Player;
 use control_lines::print_refusal;
 use disk_core::MemoryDisk;
