@@ -1,11 +1,7 @@
 //! Scripts of control lines and commands over the disk of a world. README.md, "Commands".
 
-use crate::archives;
-use crate::captures;
-use crate::frames;
-use crate::looks;
-use crate::scripts;
 use crate::world::World;
+use crate::{archives, captures, frames, looks, scripts};
 use archive_commands::{CommandFault, Stop};
 use disk_core::MemoryDisk;
 use frame_core::Refusal;
@@ -66,7 +62,11 @@ fn obey(
         "list-archive" | "verify-archive" | "compact-archive" => {
             archives::obey(alloc, world, word, rest, answer)
         }
-        "list-read-only" | "verify-read-only" | "describe" | "describe-json" | "hidden"
+        "list-read-only"
+        | "verify-read-only"
+        | "describe"
+        | "describe-json"
+        | "hidden"
         | "moment" => looks::obey(alloc, world, word, rest, answer),
         "export" | "destination" => captures::obey(alloc, world, word, rest, answer),
         "frames" | "frames-broken" | "frames-full" => frames::obey(alloc, word, rest, answer),

@@ -6,9 +6,7 @@ use disk_core::MemoryDisk;
 use frame_core::Refusal;
 use std::alloc::Global;
 use std::test::*;
-use tool_core::{
-    CheckpointOutcome, HistoryUse, Observer, Unobserved, run_checkpointed_script,
-};
+use tool_core::{CheckpointOutcome, HistoryUse, Observer, Unobserved, run_checkpointed_script};
 
 /// What a script that makes checkpoints answers over the archive of a disk, and the disk then.
 fn checkpointed<O: Observer>(

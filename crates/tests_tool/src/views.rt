@@ -6,7 +6,8 @@ use disk_core::{Disk, FileId, MemoryDisk};
 use std::test::*;
 
 /// A frame in a recording that was stopped, and one in another that is active.
-const SCRIPT: &str = "start 1001 7 42 65536 1408 131072 0 1000 c; start 1001 7 42 65536 1408 131072 0 1000 d; block 0 HELLO_AT_0; \
+const SCRIPT: &str =
+    "start 1001 7 42 65536 1408 131072 0 1000 c; start 1001 7 42 65536 1408 131072 0 1000 d; block 0 HELLO_AT_0; \
     block 1 HELLO_AT_0; stop 0 2000";
 
 /// Whether a disk refuses each change, and takes a sync.
