@@ -95,7 +95,11 @@ impl Client {
 
     /// The socket of a name: `b` names the second one.
     fn socket_of(&self, name: &str) -> &UdpSocket {
-        if name == "b" { &self.second } else { &self.first }
+        if name == "b" {
+            &self.second
+        } else {
+            &self.first
+        }
     }
 
     /// Sends a datagram by the socket of a name. Whether it went out.

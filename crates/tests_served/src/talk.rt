@@ -79,7 +79,10 @@ impl<R: Wait + Clock + Net<Listener = TcpListener, Stream = TcpStream>> Talk<'_,
             "hear-among" => self.hear_among(client, "a", rest),
             "hear-among-b" => self.hear_among(client, "b", rest),
             "prints" => self.prints(rest),
-            "printed" => Ok(format!(in self.alloc; "{}\n", self.printed.count(self.rt, rest))?.into_bytes()),
+            "printed" => Ok(format!(in self.alloc;
+                "{}\n",
+                self.printed.count(self.rt, rest)
+            )?.into_bytes()),
             _ => self.line("there is no such word"),
         }
     }
@@ -124,15 +127,11 @@ impl<R: Wait + Clock + Net<Listener = TcpListener, Stream = TcpStream>> Talk<'_,
     }
 
     /// Waits until a datagram comes, whatever comes before it: nothing is answered then.
-    fn hear_among(
-        &self,
-        client: &Client,
-        name: &str,
-        digits: &str,
-    ) -> Result<Vec<u8>, AllocError> {
+    fn hear_among(&self, client: &Client, name: &str, digits: &str) -> Result<Vec<u8>, AllocError> {
         for _ in 0..AMONG {
             match client.hear(self.alloc, name) {
-                Some(datagram) if hex::encode(self.alloc, datagram.as_slice())?.as_str() == digits => {
+                Some(datagram)
+                    if hex::encode(self.alloc, datagram.as_slice())?.as_str() == digits => {
                     return Ok(Vec::new(self.alloc));
                 }
                 Some(_) => {}

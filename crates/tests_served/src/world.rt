@@ -83,11 +83,15 @@ fn bound<R: Net<Listener = TcpListener, Stream = TcpStream>>(rt: &R) -> Option<(
     Some((ends, ports))
 }
 
-impl<R: Threads + Wait + Clock + Net<Listener = TcpListener, Stream = TcpStream> + Sync> World<'_, R> {
+impl<R: Threads + Wait + Clock + Net<Listener = TcpListener, Stream = TcpStream> + Sync> World<
+    '_,
+    R,
+> {
     /// Serves the disk with the options that words ask for, while steps from an index on are played.
     fn serve(&mut self, alloc: Global, words: &str, steps: &[Step], from: usize) -> Talked {
         let mut streams = [0];
-        let (Some(options), Some((ends, ports))) = (options_of(words, &mut streams), bound(self.rt)) else {
+        let (Some(options), Some((ends, ports))) = (options_of(words, &mut streams), bound(self.rt))
+        else {
             return Talked::Failed;
         };
         let printed = Printed::new(alloc);
@@ -107,7 +111,12 @@ impl<R: Threads + Wait + Clock + Net<Listener = TcpListener, Stream = TcpStream>
     ) -> Talked {
         let rt = self.rt;
         let disk = self.take_disk(alloc);
-        let talk = Talk { rt, alloc, ports, printed };
+        let talk = Talk {
+            rt,
+            alloc,
+            ports,
+            printed,
+        };
         let reporter = Keeping { rt, alloc, printed };
         let (served, talked) = thread::join(
             rt,
@@ -130,7 +139,8 @@ impl<R: Threads + Wait + Clock + Net<Listener = TcpListener, Stream = TcpStream>
     }
 }
 
-impl<R: Threads + Wait + Clock + Net<Listener = TcpListener, Stream = TcpStream> + Sync> Player for World<'_, R> {
+impl<R: Threads + Wait + Clock + Net<Listener = TcpListener, Stream = TcpStream> + Sync> Player
+    for World<'_, R> {
     fn begin(&mut self, alloc: Global) -> Result<(), AllocError> {
         self.disk = MemoryDisk::new(alloc);
         Ok(())
