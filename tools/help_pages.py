@@ -53,10 +53,10 @@ def options_in(text: str) -> list[Option]:
     return found
 
 
-def commands_in(text: str) -> list[str]:
-    """The words of the commands that a help text lists, but for `help`."""
+def commands_in(text: str) -> dict[str, str]:
+    """The words of the commands that a help text lists, but for `help`, each with what it does."""
     listed = text.partition("\nCommands:\n")[2].partition("\n\n")[0]
-    return [head[1] for line in listed.splitlines() if (head := COMMAND.match(line)) and head[1] != "help"]
+    return {head[1]: head[2] for line in listed.splitlines() if (head := COMMAND.match(line)) and head[1] != "help"}
 
 
 def first_sentence(text: str) -> str:
@@ -67,8 +67,8 @@ def first_sentence(text: str) -> str:
 def commands_of(program: Path) -> tuple[str, list[Command]]:
     """The program's own help text, and its commands."""
     text = help_of(program)
-    helps = [(word, help_of(program, word)) for word in commands_in(text)]
-    return text, [Command(word, said, first_sentence(said), options_in(said)) for word, said in helps]
+    helps = [(word, about, help_of(program, word)) for word, about in commands_in(text).items()]
+    return text, [Command(word, said, about, options_in(said)) for word, about, said in helps]
 
 
 def roff(text: str) -> str:
@@ -84,10 +84,10 @@ def man(version: str, text: str, commands: list[Command]) -> str:
         f'.TH {NAME.upper()} 1 "" "{roff(version)}"',
         f".SH NAME\n{NAME} \\- {roff(about[:1].lower() + about[1:])}",
         f".SH SYNOPSIS\n.B {NAME}\n.I command\n.RI [ words ]",
-        f".SH DESCRIPTION\n.nf\n{roff(text)}.fi",
+        f".SH DESCRIPTION\n.nf\n{roff(text)}\n.fi",
         ".SH COMMANDS",
     ]
-    parts += [f".SS {roff(it.word)}\n.nf\n{roff(it.help)}.fi" for it in commands]
+    parts += [f".SS {roff(it.word)}\n.nf\n{roff(it.help)}\n.fi" for it in commands]
     return "\n".join(parts) + "\n"
 
 
