@@ -2,8 +2,8 @@
 """Prints how many crates the gate proves at a time: the value for RT_JOBS.
 
 Usage: tools/jobs.py
-The number is the lesser of the processors and the free gigabytes over 5, because a check holds up to 5.4 GB. If that is below 2 it
-prints nothing, and `rt ci` chooses for itself. If RT_JOBS is set already, it prints that number.
+The number is the lesser of the processors and the free gigabytes over 5, because four checks at a time held 20 GB at most. If that is
+below 2 it prints nothing, and `rt ci` chooses for itself. If RT_JOBS is set already, it prints that number.
 """
 import os
 import re
