@@ -1,7 +1,7 @@
 //! A disk in memory, and servers over it, one after another.
 
 use crate::client::Ports;
-use crate::options::options_of;
+use crate::options::{options_of, wanted_of};
 use crate::printed::{Keeping, Printed};
 use crate::talk::{Talk, Talked};
 use case_files::{Player, Step, Wrong};
@@ -89,11 +89,11 @@ impl<R: Threads + Wait + Clock + Net<Listener = TcpListener, Stream = TcpStream>
 > {
     /// Serves the disk with the options that words ask for, while steps from an index on are played.
     fn serve(&mut self, alloc: Global, words: &str, steps: &[Step], from: usize) -> Talked {
-        let mut streams = [0];
-        let (Some(options), Some((ends, ports))) = (options_of(words, &mut streams), bound(self.rt))
-        else {
+        let (Some(wanted), Some((ends, ports))) = (wanted_of(words), bound(self.rt)) else {
             return Talked::Failed;
         };
+        let streams = [wanted.stream()];
+        let options = options_of(&wanted, streams.as_slice());
         let printed = Printed::new(alloc);
         self.serve_on(alloc, &options, ends, &printed, ports, steps, from)
     }
