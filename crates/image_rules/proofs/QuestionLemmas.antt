@@ -6,25 +6,25 @@ use Rattle.image_rules.specs.declared.signs.Sign.{Sign}
 use Rattle.image_rules.specs.declared.signs.Sign.TheVariants.{Heartbeat, Repeats, Setup}
 use Rattle.image_rules.specs.declared.questions.Doubt.{Doubt}
 use Rattle.image_rules.specs.declared.questions.Question.{Question}
-use Rattle.image_rules.specs.Questions.{Coming, Has, ShowAnother, after_sign, after_signs, decides, is_another, is_decided, is_open_at, is_repeats, is_same_kind, may_ask}
+use Rattle.image_rules.specs.Questions.{SignHeard, Has, ShowAnother, after_sign, after_signs, decides, is_another, is_decided, is_open_at, is_repeats, is_same_kind, may_begin_question}
 
 -- the sign that a question began with
-abbrev sign_of : Question → Coming
+abbrev sign_of : Question → SignHeard
 sign_of q = record { sign = q.first; time = q.since }
 
 -- ---- where the last question comes from
 
 -- the last question after a sign that begins one, or not
-begun_by : (begins : Bool) (c : Coming) (d : Doubt) (q : Question)
+begun_by : (begins : Bool) (c : SignHeard) (d : Doubt) (q : Question)
     → (if begins then record { last = Some (record { first = c.sign; since = c.time }) } else d).last ≡ Some q → (d.last ≡ Some q) ⊎ (sign_of q ≡ c)
 begun_by true c d q at = inr (cc)
 begun_by false c d q at = inl at
 
 -- the last question after some signs began with one of them, or was there before
-began_with : (g : Bool) (cs : List Coming) (d : Doubt) (q : Question) → (after_signs g cs d).last ≡ Some q → (d.last ≡ Some q) ⊎ Has (sign_of q) cs
+began_with : (g : Bool) (cs : List SignHeard) (d : Doubt) (q : Question) → (after_signs g cs d).last ≡ Some q → (d.last ≡ Some q) ⊎ Has (sign_of q) cs
 began_with g [] d q at = inl at
 began_with g (c ∷ cs) d q at =
-    ⊎_elim (λ before. ⊎_elim (λ e. inl e) (λ e. inr (inl e)) (begun_by (may_ask c.sign g c.time d) c d q before))
+    ⊎_elim (λ before. ⊎_elim (λ e. inl e) (λ e. inr (inl e)) (begun_by (may_begin_question c.sign g c.time d) c d q before))
     (λ later. inr (inr later)) (began_with g cs (after_sign c.sign g c.time d) q at)
 
 -- ---- what decides
@@ -67,8 +67,8 @@ shown_by : (o : Option Question) (s : Sign) (time : ℕ) → is_decided s time o
 shown_by None s time e = absurd (cc)
 shown_by (Some q) s time e = record { question = q; there = refl; shown = shows q s time e }
 
-pub two_signs : (g : Bool) (cs : List Coming) (last : Coming) → is_another last.sign last.time (after_signs g cs (record { last = None })) ≡ true
-    → (first : Coming) × Has first cs × ShowAnother first last
+pub two_signs : (g : Bool) (cs : List SignHeard) (last : SignHeard) → is_another last.sign last.time (after_signs g cs (record { last = None })) ≡ true
+    → (first : SignHeard) × Has first cs × ShowAnother first last
 two_signs g cs last e =
     let s = shown_by (after_signs g cs (record { last = None })).last last.sign last.time e in
     ⊎_elim (λ none. absurd (cc)) (λ has. (sign_of s.question, has, s.shown)) (began_with g cs (record { last = None }) s.question s.there)

@@ -48,40 +48,40 @@ has_rested time None = true
 has_rested time (Some q) = nat_le 2300 (time - q.since)
 
 -- a sign begins a question. In a group frames that came again begin none
-abbrev pub may_ask : Sign → Bool → ℕ → Doubt → Bool
-may_ask sign is_group time d = not (is_group && is_repeats sign) && has_rested time d.last
+abbrev pub may_begin_question : Sign → Bool → ℕ → Doubt → Bool
+may_begin_question sign is_group time d = not (is_group && is_repeats sign) && has_rested time d.last
 
 -- the last question after a sign
 abbrev pub after_sign : Sign → Bool → ℕ → Doubt → Doubt
-after_sign sign is_group time d = if may_ask sign is_group time d then record { last = Some (record { first = sign; since = time }) } else d
+after_sign sign is_group time d = if may_begin_question sign is_group time d then record { last = Some (record { first = sign; since = time }) } else d
 
 -- ---- over all signs that come
 
 -- a sign, and when it came
-pub record Coming : Type 0 where
+pub record SignHeard : Type 0 where
   pub sign : Sign
   pub time : ℕ
 
 -- the last question after some signs, the first of them first
-abbrev pub after_signs : Bool → List Coming → Doubt → Doubt
+abbrev pub after_signs : Bool → List SignHeard → Doubt → Doubt
 after_signs is_group [] d = d
 after_signs is_group (c ∷ cs) d = after_signs is_group cs (after_sign c.sign is_group c.time d)
 
 -- some signs decide, the first of them first, that the publication is another one
-abbrev pub is_decided_in : Bool → List Coming → Doubt → Bool
+abbrev pub is_decided_in : Bool → List SignHeard → Doubt → Bool
 is_decided_in is_group [] d = false
 is_decided_in is_group (c ∷ cs) d = is_another c.sign c.time d || is_decided_in is_group cs (after_sign c.sign is_group c.time d)
 
-abbrev pub is_decided_by : Bool → List Coming → Bool
+abbrev pub is_decided_by : Bool → List SignHeard → Bool
 is_decided_by is_group signs = is_decided_in is_group signs (record { last = None })
 
 -- two signs show another publication: the second comes at most 300 milliseconds after the first, and is of another kind, of frames that came again, or 100 milliseconds or more later
-abbrev pub ShowAnother : Coming → Coming → Type 0
+abbrev pub ShowAnother : SignHeard → SignHeard → Type 0
 ShowAnother first second =
     (second.time - first.time ≤ 300)
     × ((is_same_kind second.sign first.sign ≡ false) ⊎ (second.sign ≡ Repeats) ⊎ (100 ≤ second.time - first.time))
 
 -- some signs have one in them
-abbrev pub Has : Coming → List Coming → Type 0
+abbrev pub Has : SignHeard → List SignHeard → Type 0
 Has c [] = ⊥
 Has c (d ∷ ds) = (c ≡ d) ⊎ Has c ds

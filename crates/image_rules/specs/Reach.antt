@@ -22,8 +22,8 @@ abbrev pub is_reached : ℕ → GapLook → Bool
 is_reached position look = is_reached_from position look.reach look.named
 
 -- the time begins anew: the gap can still be filled, or nothing of the publication came for 1,000 milliseconds
-abbrev pub begins_anew : ℕ → GapLook → Bool
-begins_anew position look = not (is_out_of_reach position look) || is_reached position look || nat_le 1000 (look.time - look.heard)
+abbrev pub restarts_wait : ℕ → GapLook → Bool
+restarts_wait position look = not (is_out_of_reach position look) || is_reached position look || nat_le 1000 (look.time - look.heard)
 
 -- a gap at a position that is out of reach now: the one that was known, or another one
 abbrev pub gap_at : ℕ → ℕ → Option OutOfReach → OutOfReach
@@ -33,7 +33,7 @@ gap_at position time (Some gap) = if gap.position == position then gap else reco
 -- the first gap, if it is asked for and out of reach
 abbrev pub gap_of : Option ℕ → GapLook → Option OutOfReach → Option OutOfReach
 gap_of None look known = None
-gap_of (Some position) look known = if begins_anew position look then None else Some (gap_at position look.time known)
+gap_of (Some position) look known = if restarts_wait position look then None else Some (gap_at position look.time known)
 
 abbrev pub gap_after : GapLook → Option OutOfReach → Option OutOfReach
 gap_after look known = gap_of look.gap look known
@@ -47,5 +47,5 @@ has_waited time None = false
 has_waited time (Some gap) = nat_le 5000 (time - gap.since)
 
 -- the first gap is given up
-abbrev pub is_given_up : GapLook → UnreachableGap → Bool
-is_given_up look u = has_waited look.time (gap_after look u.gap)
+abbrev pub is_out_of_patience : GapLook → UnreachableGap → Bool
+is_out_of_patience look u = has_waited look.time (gap_after look u.gap)

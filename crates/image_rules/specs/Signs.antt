@@ -3,12 +3,12 @@ use Rattle.std.specs.Prelude.{◌≡◌, ◌≢◌, ◌⊎◌, ◌<ℤ◌, ◌-�
 use Rattle.frame_core.specs.declared.geometry.Geometry.{Geometry}
 use Rattle.frame_core.specs.declared.setup.Setup.{Setup}
 use Rattle.frame_core.specs.Setup.{HasJoinPosition, geometry_of}
-use Rattle.image_rules.specs.Ending.{has_terms}
+use Rattle.image_rules.specs.Ending.{are_same_terms}
 use Rattle.image_rules.specs.declared.signs.UnaskedFrames.{UnaskedFrames}
 
 -- a setup frame has other terms than the image, or its position is before the mark
 abbrev pub IsSetupSign : Geometry → ℤ → Setup → Type 0
-IsSetupSign g mark s = (has_terms (geometry_of s) g ≡ false) ⊎ ((p : ℤ) × HasJoinPosition s p × (p <ℤ mark))
+IsSetupSign g mark s = (are_same_terms (geometry_of s) g ≡ false) ⊎ ((p : ℤ) × HasJoinPosition s p × (p <ℤ mark))
 
 -- a heartbeat is before the mark, and nothing else of the publication came in the 50 milliseconds before it
 abbrev pub is_heartbeat_sign : ℤ → ℤ → ℕ → ℕ → Bool

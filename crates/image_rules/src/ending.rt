@@ -1,7 +1,7 @@
 //! The end of a publication, which its sender says by flags of its heartbeats: Aeron Transport Protocol Specification, "Data Frame".
 
 ghost use Rattle.std.specs.Prelude.{◌≡◌, ◌<◌, true, false};
-ghost use Rattle.image_rules.specs.Ending.{asks_for_setup, has_all, has_terms, is_at_end, is_end, is_revoked, may_join};
+ghost use Rattle.image_rules.specs.Ending.{brings_request, is_whole_up_to, are_same_terms, is_at_end, ends_stream, is_revoked, may_join};
 
 use frame_core::Geometry;
 
@@ -18,7 +18,7 @@ const SILENT: u64 = 300;
 #[derive(Clone, Copy, Debug, PartialEq, Eq)]
 pub struct EndingFlags {
     /// The stream ends at the heartbeat's position.
-    pub is_end: bool,
+    pub ends_stream: bool,
     /// The publication is gone at once: an image of it leaves with what is whole.
     pub is_revoked: bool,
 }
@@ -26,21 +26,21 @@ pub struct EndingFlags {
 impl EndingFlags {
     /// What flags say. Does not allocate.
     pub fn of(flags: u8) -> EndingFlags
-        ensures end { result.is_end ≡ is_end flags }
+        ensures end { result.ends_stream ≡ ends_stream flags }
         ensures revoked { result.is_revoked ≡ is_revoked flags }
     {
-        let is_end = flags & END_OF_STREAM != 0;
+        let ends_stream = flags & END_OF_STREAM != 0;
         EndingFlags {
-            is_end,
-            is_revoked: is_end && flags & REVOKED != 0,
+            ends_stream,
+            is_revoked: ends_stream && flags & REVOKED != 0,
         }
     }
 }
 
 /// Whether an image has all of a stream that ends at a position: that is its rebuild position, and no frame is further on. Does not
 /// allocate.
-pub fn has_all(end: i64, rebuilt: i64, mark: i64) -> bool
-    ensures { result ≡ has_all end rebuilt mark }
+pub fn is_whole_up_to(end: i64, rebuilt: i64, mark: i64) -> bool
+    ensures { result ≡ is_whole_up_to end rebuilt mark }
 {
     end == rebuilt && end == mark
 }
@@ -60,8 +60,8 @@ pub struct EndedPublication {
 
 impl EndedPublication {
     /// Whether frames of it bring a request for a setup frame: not heartbeats that say the end, for 10 seconds. Does not allocate.
-    pub fn asks_for_setup(&self, says_end: bool, now: u64) -> bool
-        ensures { result ≡ asks_for_setup says_end now self.now }
+    pub fn brings_request(&self, says_end: bool, now: u64) -> bool
+        ensures { result ≡ brings_request says_end now self.now }
     {
         !says_end || LINGER <= now.saturating_sub(self.at)
     }
@@ -79,13 +79,13 @@ impl EndedPublication {
     fn is_at_end(&self, geometry: &Geometry, position: i64) -> bool
         ensures { result ≡ is_at_end geometry.now position self.now }
     {
-        self.position == position && has_terms(&self.geometry, geometry)
+        self.position == position && are_same_terms(&self.geometry, geometry)
     }
 }
 
 /// Whether two publications have the same terms. Does not allocate.
-pub fn has_terms(one: &Geometry, other: &Geometry) -> bool
-    ensures { result ≡ has_terms one.now other.now }
+pub fn are_same_terms(one: &Geometry, other: &Geometry) -> bool
+    ensures { result ≡ are_same_terms one.now other.now }
 {
     one.initial_term_id == other.initial_term_id
         && one.term_length == other.term_length

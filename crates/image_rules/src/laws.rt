@@ -1,7 +1,7 @@
 //! Laws of the definitions, each the contract of a function that does nothing.
 
 ghost use Rattle.std.specs.Prelude.{◌≡◌, ◌≤◌, ◌+◌, ◌⊎◌, ◌∷◌, [], ℕ, List, Bool, Some, None, true, false};
-ghost use Rattle.image_rules.specs.Questions.{Coming, Has, ShowAnother, after_sign, after_signs, is_another, is_decided_by};
+ghost use Rattle.image_rules.specs.Questions.{SignHeard, Has, ShowAnother, after_sign, after_signs, is_another, is_decided_by};
 ghost use Rattle.image_rules.specs.declared.questions.Doubt.{Doubt};
 ghost use Rattle.image_rules.specs.declared.questions.Question.{Question};
 ghost use Rattle.image_rules.specs.declared.signs.Sign.{Sign};
@@ -11,9 +11,9 @@ ghost use Rattle.image_rules.specs.declared.signs.Sign.TheVariants.{Heartbeat, R
 /// kind, of frames that came again, or 100 milliseconds or more later.
 #[tactic(auto, using(crate::proofs::QuestionLemmas::two_signs))]
 pub fn an_image_ends_by_two_signs()
-    ensures { (is_group : Bool) (signs : List Coming) (last : Coming) →
+    ensures { (is_group : Bool) (signs : List SignHeard) (last : SignHeard) →
         is_another last.sign last.time (after_signs is_group signs (record { last = None })) ≡ true →
-        (first : Coming) × Has first signs × ShowAnother first last }
+        (first : SignHeard) × Has first signs × ShowAnother first last }
 {}
 
 /// A question that a sign begins, after another one that began, begins 2,300 milliseconds later or more. Each lasts 300, so signs that

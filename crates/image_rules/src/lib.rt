@@ -7,7 +7,7 @@ mod questions;
 mod reach;
 mod signs;
 
-pub use ending::{EndedPublication, EndingFlags, LINGER, has_all, has_terms};
+pub use ending::{EndedPublication, EndingFlags, LINGER, are_same_terms, is_whole_up_to};
 pub use questions::{Doubt, Question};
 pub use reach::{GapLook, OutOfReach, UnreachableGap, repeat_reach};
 pub use signs::{Sign, UnaskedFrames, is_heartbeat_sign, is_setup_sign};

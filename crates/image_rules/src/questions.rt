@@ -1,7 +1,7 @@
 //! Whether an image is in question, and when its publication is another one. One sign may be a late duplicate, so it takes two.
 
 ghost use Rattle.std.specs.Prelude.{◌≡◌, None};
-ghost use Rattle.image_rules.specs.Questions.{after_sign, decides, is_another, is_in_question, is_open_at, may_ask};
+ghost use Rattle.image_rules.specs.Questions.{after_sign, decides, is_another, is_in_question, is_open_at, may_begin_question};
 
 use crate::signs::Sign;
 
@@ -72,7 +72,7 @@ impl Doubt {
         ensures after { self.new ≡ after_sign sign is_group now self.old }
     {
         let is_another = self.is_another(sign, now);
-        if self.may_ask(sign, is_group, now) {
+        if self.may_begin_question(sign, is_group, now) {
             self.last = Some(Question {
                 first: sign,
                 since: now,
@@ -92,8 +92,8 @@ impl Doubt {
     }
 
     /// Whether a sign begins a question.
-    fn may_ask(&self, sign: Sign, is_group: bool, now: u64) -> bool
-        ensures { result ≡ may_ask sign is_group now self.now }
+    fn may_begin_question(&self, sign: Sign, is_group: bool, now: u64) -> bool
+        ensures { result ≡ may_begin_question sign is_group now self.now }
     {
         if is_group && sign == Sign::Repeats {
             return false;

@@ -1,7 +1,7 @@
 //! A first gap that lies further back than a sender repeats: what is missing can't come any more.
 
 ghost use Rattle.std.specs.Prelude.{◌≡◌, ◌<◌, ◌^◌, None, Some};
-ghost use Rattle.image_rules.specs.Reach.{after_look, begins_anew, gap_after, is_given_up, is_out_of_reach, is_reached, repeat_reach};
+ghost use Rattle.image_rules.specs.Reach.{after_look, restarts_wait, gap_after, is_out_of_patience, is_out_of_reach, is_reached, repeat_reach};
 
 use frame_core::Geometry;
 
@@ -58,8 +58,8 @@ impl GapLook {
     }
 
     /// Whether the time begins anew for a gap at a position: it can still be filled, or the publication is silent.
-    fn begins_anew(&self, position: u64) -> bool
-        ensures { result ≡ begins_anew position self.now }
+    fn restarts_wait(&self, position: u64) -> bool
+        ensures { result ≡ restarts_wait position self.now }
     {
         !self.is_out_of_reach(position)
             || self.is_reached(position)
@@ -94,7 +94,7 @@ impl UnreachableGap {
     /// The image is looked at. Whether its first gap is given up: it was out of reach at each look for 5,000 milliseconds, while it was
     /// asked for and something of the publication came within each 1,000. Does not allocate.
     pub fn follow(&mut self, look: &GapLook) -> bool
-        ensures given_up { result ≡ is_given_up look.now self.old }
+        ensures given_up { result ≡ is_out_of_patience look.now self.old }
         ensures after { self.new ≡ after_look look.now self.old }
     {
         self.gap = gap_after(look, self.gap);
@@ -112,7 +112,7 @@ fn gap_after(look: &GapLook, known: Option<OutOfReach>) -> Option<OutOfReach>
     let Some(position) = look.gap else {
         return None;
     };
-    if look.begins_anew(position) {
+    if look.restarts_wait(position) {
         return None;
     }
     match known {

@@ -5,7 +5,7 @@ ghost use Rattle.std.specs.Prelude.{◌≡◌, None, MatchBool};
 ghost use Rattle.frame_core.specs.Setup.{IsUsable};
 ghost use Rattle.image_rules.specs.Signs.{IsSetupSign, after_unasked, is_heartbeat_sign, is_third};
 
-use crate::ending::has_terms;
+use crate::ending::are_same_terms;
 use frame_core::{Geometry, Setup};
 
 /// Milliseconds in which nothing else of a publication came before a heartbeat that is a sign.
@@ -31,7 +31,7 @@ pub fn is_setup_sign(geometry: &Geometry, mark: i64, setup: &Setup) -> bool
     requires usable { IsUsable setup.now }
     ensures { MatchBool result (IsSetupSign geometry.now mark setup.now) (IsSetupSign geometry.now mark setup.now → ⊥) }
 {
-    if !has_terms(&setup.geometry(), geometry) {
+    if !are_same_terms(&setup.geometry(), geometry) {
         return true;
     }
     match setup.join_position() {
